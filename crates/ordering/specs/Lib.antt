@@ -1,0 +1,5 @@
+pub mod Clocks
+pub mod Operations
+pub mod Orders
+pub mod Stamps
+pub mod Words
