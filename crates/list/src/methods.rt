@@ -10,7 +10,6 @@ ghost use Rattle.std.specs.Options.{isSome};
 ghost use Rattle.std.specs.declared.option.Option.the-variants.{Some};
 ghost use Rattle.std.specs.shelf.Maps.{nth};
 ghost use Rattle.list.specs.Contents.{contents, room, push-answer, pushed, removed};
-
 use crate::record::Record;
 use crate::storage::Full;
 use crate::storage::List;
@@ -22,7 +21,11 @@ impl<'a, T: Record> List<'a, T> {
         ensures capacity { λ r. ⌜ room r ≡ min most (length (now (memory .entry))) ⌝ }
     {
         let capacity = T::most().min(memory.len());
-        List { memory, len: 0, capacity }
+        List {
+            memory,
+            len: 0,
+            capacity,
+        }
     }
 
     pub fn len(&self) -> usize
@@ -53,7 +56,9 @@ impl<'a, T: Record> List<'a, T> {
         ensures capacity { λ _. ⌜ room (now (self .exit)) ≡ room (now (self .entry)) ⌝ }
     {
         if self.len() == self.capacity {
-            return Err(Full { capacity: self.capacity });
+            return Err(Full {
+                capacity: self.capacity,
+            });
         }
         self.append(record);
         Ok(())

@@ -2,7 +2,6 @@
 
 ghost use mathlib.Core.Path.{_≡_};
 ghost use Rattle.trail.specs.Addresses.{address-of, covers, value-at};
-
 use crate::entry::Entry;
 
 #[derive(Clone, Copy)]
@@ -17,9 +16,15 @@ impl Entry {
         ensures { λ r. ⌜ r ≡ address-of (now (self .entry)) word ⌝ }
     {
         if self.operation.is_block() {
-            return Address { space: self.space, word: 4 * u64::from(self.place) + u64::from(word) };
+            return Address {
+                space: self.space,
+                word: 4 * u64::from(self.place) + u64::from(word),
+            };
         }
-        Address { space: self.space, word: u64::from(self.place) }
+        Address {
+            space: self.space,
+            word: u64::from(self.place),
+        }
     }
 
     pub fn covers(&self, address: Address) -> bool

@@ -1,0 +1,5 @@
+pub mod Kinds
+pub mod Messages
+pub mod Nodes
+pub mod Reactions
+pub mod Requests

@@ -1,0 +1,7 @@
+//! Messages between nodes, and what a node's reaction sends, records and answers.
+
+pub mod kind;
+pub mod message;
+pub mod node;
+pub mod reaction;
+pub mod requests;
