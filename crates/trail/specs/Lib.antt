@@ -1,1 +1,3 @@
 pub mod Addresses
+pub mod Sources
+pub mod Sums
