@@ -1,3 +1,4 @@
 pub mod Adding
 pub mod Choice
+pub mod Covering
 pub mod Latest

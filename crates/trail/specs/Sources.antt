@@ -5,7 +5,7 @@ use mathlib.Core.Path.{_≡_}
 use Prim.Native.Nat.{ℕ, _+_, _<_}
 use lib.Dec.{ltb}
 use lib.ListN.{length, getD}
-use Rattle.ordering.specs.Operations.{is-read, is-write, is-block}
+use Rattle.ordering.specs.Operations.{is-read, is-write}
 use Rattle.ordering.specs.Stamps.{below}
 use Rattle.ordering.specs.declared.stamp.Stamp.{Stamp}
 use Rattle.std.specs.declared.option.Option.{Option}
@@ -13,7 +13,7 @@ use Rattle.std.specs.declared.option.Option.the-variants.{Some, None}
 use Rattle.std.specs.declared.result.Result.{Result}
 use Rattle.std.specs.declared.result.Result.the-variants.{Ok, Err}
 use Rattle.std.specs.shelf.Maps.{nth}
-use Rattle.trail.specs.Addresses.{no-entry, address-of, covers, value-at}
+use Rattle.trail.specs.Addresses.{no-entry, address-of, covers, value-at, has-word}
 use Rattle.trail.specs.declared.address.Address.{Address}
 use Rattle.trail.specs.declared.entry.Entry.{Entry}
 use Rattle.trail.specs.declared.source.Candidate.{Candidate}
@@ -46,9 +46,6 @@ later (Some c) (Some d) = cond (below (c .stamp) (d .stamp)) (Some d) (Some c)
 abbrev pub latest : Address → Stamp → ℕ → List Entry → Option Candidate
 latest a s n [] = None
 latest a s n (e ∷ es) = later (candidate a s n e) (latest a s (n + 1) es)
-
-abbrev pub has-word : Entry → ℕ → Bool
-has-word e w = ltb w (cond (is-block (e .operation)) 4 1)
 
 abbrev pub told : Option Candidate → Option (ℕ × ℕ)
 told None = None

@@ -1,7 +1,7 @@
 //! Addresses: a word of a space. A block's words have figures of up to 34 bits.
 
 ghost use mathlib.Core.Path.{_≡_};
-ghost use Rattle.trail.specs.Addresses.{address-of, covers, value-at};
+ghost use Rattle.trail.specs.Addresses.{address-of, covers, value-at, has-word, Covers-own-words};
 use crate::entry::Entry;
 
 #[derive(Clone, Copy)]
@@ -27,6 +27,13 @@ impl Entry {
         }
     }
 
+    /// A block operation has four words, any other one.
+    pub fn has_word(&self, word: u32) -> bool
+        ensures { λ r. ⌜ r ≡ has-word (now (self .entry)) word ⌝ }
+    {
+        if self.operation.is_block() { word < 4 } else { word < 1 }
+    }
+
     pub fn covers(&self, address: Address) -> bool
         ensures { λ r. ⌜ r ≡ covers (now (self .entry)) address ⌝ }
     {
@@ -49,4 +56,10 @@ impl Entry {
         }
         self.values.at[0]
     }
+}
+
+/// An entry covers the addresses of its words, with its values there, and no others.
+pub fn entries_cover_their_words()
+    ensures { λ _. ⌜ Covers-own-words ⌝ }
+{
 }

@@ -1,7 +1,7 @@
 //! The source of a word that was read: the write below it with the greatest stamp there.
 
 ghost use mathlib.Core.Path.{_≡_};
-ghost use Rattle.trail.specs.Sources.{candidate, later, latest, has-word, source-of, fault-number, fault-place, Latest-write};
+ghost use Rattle.trail.specs.Sources.{candidate, later, latest, source-of, fault-number, fault-place, Latest-write};
 
 use crate::address::Address;
 use crate::entry::Entry;
@@ -43,13 +43,6 @@ struct Candidate {
 }
 
 impl Entry {
-    /// A block operation has four words, any other one.
-    pub fn has_word(&self, word: u32) -> bool
-        ensures { λ r. ⌜ r ≡ has-word (now (self .entry)) word ⌝ }
-    {
-        if self.operation.is_block() { word < 4 } else { word < 1 }
-    }
-
     fn candidate(&self, entry: usize, address: Address, reader: Stamp) -> Option<Candidate>
         ensures { λ r. ⌜ r ≡ candidate address reader entry (now (self .entry)) ⌝ }
     {
