@@ -1,12 +1,9 @@
 -- The seven operations: which read, which write, which go to a block, and their names.
 use mathlib.Core.Bool.{Bool, _||_}
-use mathlib.Core.Path.{_≡_}
 use mathlib.Core.List.{List, [], _∷_}
 use Prim.Native.Nat.{ℕ}
 use lib.Chars.{codes}
 use lib.Dec.{eqb}
-use Rattle.std.specs.declared.option.Option.{Option}
-use Rattle.std.specs.declared.option.Option.the-variants.{Some, None}
 use Rattle.ordering.specs.declared.operation.Operation.{Operation}
 use Rattle.ordering.specs.declared.operation.Operation.the-variants.{Ld, St, LdIo, StIo, Int, LdBlk, StBlk}
 
@@ -40,8 +37,3 @@ name-of StIo = codes "STio"
 name-of Int = codes "INT"
 name-of LdBlk = codes "LDblk"
 name-of StBlk = codes "STblk"
-
--- The operation whose name stands in the text, if one does.
-abbrev pub Names : List ℕ → Option Operation → Type 0
-Names text None = (o : Operation) → text ≡ name-of o → ⊥
-Names text (Some o) = text ≡ name-of o

@@ -2,7 +2,7 @@
 //! `N` is the width of the numbers: 32 bits at rest, 64 where one may stand past the end.
 
 ghost use mathlib.Core.Path.{_≡_};
-ghost use Prim.Native.Nat.{_<_};
+ghost use Prim.Native.Nat.{_+_, _<_, max};
 ghost use Rattle.ordering.specs.Clocks.{counted, passed, settled};
 
 /// Where global, local and sequence numbers end.
@@ -15,6 +15,12 @@ pub struct Clock<N = u32> {
 }
 
 impl Clock {
+    fn above(self, n: u32) -> u64
+        ensures { λ r. ⌜ r ≡ max (self .global) n + 1 ⌝ }
+    {
+        u64::from(self.global.max(n)) + 1
+    }
+
     /// The same clock in the wider numbers.
     pub fn wide(self) -> Clock<u64>
         ensures { λ r. ⌜ r ≡ self ⌝ }
@@ -42,7 +48,7 @@ impl Clock {
         ensures above { λ r. ⌜ n < r .global ⌝ }
     {
         Clock {
-            global: u64::from(self.global.max(n)) + 1,
+            global: self.above(n),
             local: 0,
         }
     }
@@ -52,7 +58,7 @@ impl Clock {
         ensures { λ r. ⌜ r ≡ counted (passed self n) ⌝ }
     {
         Clock {
-            global: u64::from(self.global.max(n)) + 1,
+            global: self.above(n),
             local: 1,
         }
     }

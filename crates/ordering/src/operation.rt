@@ -1,7 +1,7 @@
 //! The seven operations, and the four words that one carries.
 
 ghost use mathlib.Core.Path.{_≡_};
-ghost use Rattle.ordering.specs.Operations.{is-read, is-write, is-block, name-of, Names};
+ghost use Rattle.ordering.specs.Operations.{is-read, is-write, is-block, name-of};
 ghost use Rattle.ordering.specs.Words.{one-word};
 
 #[derive(Clone, Copy)]
@@ -46,22 +46,6 @@ impl Operation {
             Operation::Int => "INT",
             Operation::LdBlk => "LDblk",
             Operation::StBlk => "STblk",
-        }
-    }
-
-    /// The operation that has this name.
-    pub fn named(name: &str) -> Option<Operation>
-        ensures { λ r. ⌜ Names (now (name .entry)) r ⌝ }
-    {
-        match name {
-            "LD" => Some(Operation::Ld),
-            "ST" => Some(Operation::St),
-            "LDio" => Some(Operation::LdIo),
-            "STio" => Some(Operation::StIo),
-            "INT" => Some(Operation::Int),
-            "LDblk" => Some(Operation::LdBlk),
-            "STblk" => Some(Operation::StBlk),
-            _ => None,
         }
     }
 }

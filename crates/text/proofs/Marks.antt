@@ -18,7 +18,7 @@ module _ (xs : List ℕ) (mark at e : ℕ) (low : at ≤ e) (inside : e < length
       → before mark (drop at xs) ≡ between at (e + 1) xs ++ before mark (drop (e + 1) xs)
   before-more other so-far =
       let here : before mark (drop e xs) ≡ getD xs e 0 ∷ before mark (drop (e + 1) xs) =
-          at-drop-more (before mark) xs e 0 inside ∙ rw (ne-eqb (getD xs e 0) mark other) refl
+      at-drop-more (before mark) xs e 0 inside ∙ rw (ne-eqb (getD xs e 0) mark other) refl
       in
       let longer = between-more xs at e 0 low inside in
       let joined = append-assoc (between at e xs) (getD xs e 0 ∷ []) (before mark (drop (e + 1) xs)) in

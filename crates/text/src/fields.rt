@@ -4,7 +4,6 @@ ghost use mathlib.Core.Path.{_≡_};
 ghost use Rattle.std.specs.Options.{mapped};
 ghost use Rattle.std.specs.declared.option.Option.the-variants.{Some};
 ghost use Rattle.text.specs.Parts.{unread, first-field, other-fields, first-number, has-none};
-
 use crate::bytes::decimal;
 use crate::bytes::end_from;
 

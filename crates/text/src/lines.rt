@@ -4,7 +4,6 @@ ghost use mathlib.Core.Path.{_≡_};
 ghost use Rattle.std.specs.Options.{mapped};
 ghost use Rattle.std.specs.declared.option.Option.the-variants.{Some};
 ghost use Rattle.text.specs.Parts.{nonempty, to-come, first-line, other-lines};
-
 use crate::bytes::end_from;
 
 /// A text and the place up to which it has been read.

@@ -55,13 +55,21 @@ module _ (a : Address) (s : Stamp) where
       nowhere zero f h = ap (writes-below a s) (same-entry e f h) ∙ no-write
       nowhere (suc m) f h = law m f h
   passed-over n e es no-write (Some c) law = record {
-    place = suc (law .place); numbered = omega (arith, law .numbered); write = law .write; stands = law .stands;
-    writes = law .writes; value = law .value; stamp = law .stamp; greatest = greatest; first = first;
+    place = suc (law .place);
+    numbered = omega (arith, law .numbered);
+    write = law .write;
+    stands = law .stands;
+    writes = law .writes;
+    value = law .value;
+    stamp = law .stamp;
+    greatest = greatest;
+    first = first;
   }
     where
       greatest : (m : ℕ) (f : Entry) → nth (e ∷ es) m ≡ Some f → writes-below a s f ≡ true → below (law .write .stamp) (f .stamp) ≡ false
       greatest zero f h w = absurd (both-ways (writes-below a s e) no-write (ap (writes-below a s) (sym (same-entry e f h)) ∙ w))
       greatest (suc m) f h w = law .greatest m f h w
+
       first : (m : ℕ) (f : Entry) → m < suc (law .place) → nth (e ∷ es) m ≡ Some f → writes-below a s f ≡ true → below (f .stamp) (law .write .stamp) ≡ true
       first zero f l h w = absurd (both-ways (writes-below a s e) no-write (ap (writes-below a s) (sym (same-entry e f h)) ∙ w))
       first (suc m) f l h w = law .first m f (omega arith) h w
@@ -73,8 +81,15 @@ module _ (a : Address) (s : Stamp) where
   keeps : (n : ℕ) (e : Entry) (es : List Entry) → writes-below a s e ≡ true
       → ((m : ℕ) (f : Entry) → nth es m ≡ Some f → writes-below a s f ≡ true → below (e .stamp) (f .stamp) ≡ false) → Chosen n (e ∷ es) (offered n e)
   keeps n e es is-write above = record {
-    place = 0; numbered = omega arith; write = e; stands = refl; writes = is-write; value = refl; stamp = refl;
-    greatest = greatest; first = λ m f l h w. absurd (omega (arith, l));
+    place = 0;
+    numbered = omega arith;
+    write = e;
+    stands = refl;
+    writes = is-write;
+    value = refl;
+    stamp = refl;
+    greatest = greatest;
+    first = λ m f l h w. absurd (omega (arith, l));
   }
     where
       greatest : (m : ℕ) (f : Entry) → nth (e ∷ es) m ≡ Some f → writes-below a s f ≡ true → below (e .stamp) (f .stamp) ≡ false
@@ -84,15 +99,24 @@ module _ (a : Address) (s : Stamp) where
   -- an entry that a later one is above
   yields : (n : ℕ) (e : Entry) (es : List Entry) (c : Candidate) → Chosen (n + 1) es c → below (e .stamp) (c .stamp) ≡ true → Chosen n (e ∷ es) c
   yields n e es c law up = record {
-    place = suc (law .place); numbered = omega (arith, law .numbered); write = law .write; stands = law .stands;
-    writes = law .writes; value = law .value; stamp = law .stamp; greatest = greatest; first = first;
+    place = suc (law .place);
+    numbered = omega (arith, law .numbered);
+    write = law .write;
+    stands = law .stands;
+    writes = law .writes;
+    value = law .value;
+    stamp = law .stamp;
+    greatest = greatest;
+    first = first;
   }
     where
       over : below (e .stamp) (law .write .stamp) ≡ true
       over = ap (below (e .stamp)) (sym (law .stamp)) ∙ up
+
       greatest : (m : ℕ) (f : Entry) → nth (e ∷ es) m ≡ Some f → writes-below a s f ≡ true → below (law .write .stamp) (f .stamp) ≡ false
       greatest zero f h w = ap (λ (g : Entry). below (law .write .stamp) (g .stamp)) (same-entry e f h) ∙ asymmetric (e .stamp) (law .write .stamp) over
       greatest (suc m) f h w = law .greatest m f h w
+
       first : (m : ℕ) (f : Entry) → m < suc (law .place) → nth (e ∷ es) m ≡ Some f → writes-below a s f ≡ true → below (f .stamp) (law .write .stamp) ≡ true
       first zero f l h w = ap (λ (g : Entry). below (g .stamp) (law .write .stamp)) (same-entry e f h) ∙ over
       first (suc m) f l h w = law .first m f (omega arith) h w
@@ -123,6 +147,10 @@ latest-write trail a s = go (latest a s 0 trail) (chosen a s 0 trail)
     go (Some c) law =
         let at : law .place ≡ c .entry = omega (arith, law .numbered) in
         record {
-          write = law .write; stands = ap (nth trail) (sym at) ∙ law .stands; writes = law .writes; value = law .value;
-          greatest = law .greatest; first = λ m e l h w. law .first m e (omega arith) h w;
+          write = law .write;
+          stands = ap (nth trail) (sym at) ∙ law .stands;
+          writes = law .writes;
+          value = law .value;
+          greatest = law .greatest;
+          first = λ m e l h w. law .first m e (omega arith) h w;
         }

@@ -13,8 +13,13 @@ use Rattle.trail.specs.declared.entry.Entry.{Entry}
 -- Stands for an entry that is not there.
 abbrev pub no-entry : Entry
 no-entry = record {
-  party = 0; sequence = 0; operation = Ld; space = 0; place = 0;
-  values = record { at = [] }; stamp = record { global = 0; local = 0; node = 0 };
+  party = 0;
+  sequence = 0;
+  operation = Ld;
+  space = 0;
+  place = 0;
+  values = record { at = [] };
+  stamp = record { global = 0; local = 0; node = 0 };
 }
 
 -- A word operation goes to the word at its place, a block operation to the words 4 × place + 0 to 3.

@@ -31,7 +31,11 @@ impl Entry {
     pub fn has_word(&self, word: u32) -> bool
         ensures { λ r. ⌜ r ≡ has-word (now (self .entry)) word ⌝ }
     {
-        if self.operation.is_block() { word < 4 } else { word < 1 }
+        if self.operation.is_block() {
+            word < 4
+        } else {
+            word < 1
+        }
     }
 
     pub fn covers(&self, address: Address) -> bool
@@ -61,5 +65,4 @@ impl Entry {
 /// An entry covers the addresses of its words, with its values there, and no others.
 pub fn entries_cover_their_words()
     ensures { λ _. ⌜ Covers-own-words ⌝ }
-{
-}
+{}

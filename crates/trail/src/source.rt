@@ -2,7 +2,6 @@
 
 ghost use mathlib.Core.Path.{_≡_};
 ghost use Rattle.trail.specs.Sources.{candidate, later, latest, source-of, fault-number, fault-place, Latest-write};
-
 use crate::address::Address;
 use crate::entry::Entry;
 use ordering::stamp::Stamp;
@@ -47,7 +46,11 @@ impl Entry {
         ensures { λ r. ⌜ r ≡ candidate address reader entry (now (self .entry)) ⌝ }
     {
         if self.operation.is_write() && self.covers(address) && self.stamp.is_below(reader) {
-            return Some(Candidate { entry, value: self.value_at(address), stamp: self.stamp });
+            return Some(Candidate {
+                entry,
+                value: self.value_at(address),
+                stamp: self.stamp,
+            });
         }
         None
     }
@@ -63,7 +66,11 @@ fn later(first: Option<Candidate>, second: Option<Candidate>) -> Option<Candidat
     let Some(other) = second else {
         return first;
     };
-    if one.stamp.is_below(other.stamp) { second } else { first }
+    if one.stamp.is_below(other.stamp) {
+        second
+    } else {
+        first
+    }
 }
 
 fn latest(trail: &[Entry], address: Address, reader: Stamp) -> Option<Candidate>
@@ -100,5 +107,4 @@ pub fn source(trail: &[Entry], entry: usize, word: u32) -> Result<Option<(usize,
 /// ones; there is none exactly where there is no such write.
 pub fn sources_are_latest()
     ensures { λ _. ⌜ Latest-write ⌝ }
-{
-}
+{}

@@ -3,7 +3,6 @@
 ghost use mathlib.Core.Path.{_≡_};
 ghost use Prim.Native.Nat.{_<_, _^_};
 ghost use Rattle.trail.specs.Sums.{words-sum, control-sum};
-
 use crate::entry::Entry;
 use ordering::operation::Words;
 
