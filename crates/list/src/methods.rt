@@ -129,3 +129,42 @@ impl<'a, T: Record> List<'a, T> {
         self.len = last;
     }
 }
+
+#[cfg(test)]
+mod tests {
+    use super::*;
+    use std::test::*;
+
+    #[derive(Clone, Copy)]
+    struct Note {
+        pitch: u8,
+    }
+
+    impl Record for Note as NoteRecord {
+        ghost most = { 3 };
+
+        fn most() -> usize {
+            3
+        }
+    }
+
+    #[test]
+    fn closes_the_gap() -> Result<(), Fail> {
+        let mut memory = [Note { pitch: 0 }; 5];
+        let mut notes = List::new(&mut memory);
+        check_eq(notes.capacity(), 3)?;
+        for pitch in 1..=4 {
+            let _ = notes.push(Note { pitch });
+        }
+        check_eq(notes.len(), 3)?;
+        let Some(given_up) = notes.remove(1) else {
+            return Err(Fail::new("no second note"));
+        };
+        check_eq(given_up.pitch, 2)?;
+        let Some(last) = notes.get(1) else {
+            return Err(Fail::new("the gap is open"));
+        };
+        check_eq(last.pitch, 3)?;
+        check(notes.remove(2).is_none())
+    }
+}

@@ -79,3 +79,31 @@ impl Clock<u64> {
         })
     }
 }
+
+#[cfg(test)]
+mod tests {
+    use super::*;
+    use std::test::*;
+
+    #[test]
+    fn passes_the_greater_number() -> Result<(), Fail> {
+        let clock: Clock = Clock {
+            global: 3,
+            local: 2,
+        };
+        check_eq(clock.passed(5).global, 6)?;
+        check_eq(clock.passed(2).global, 4)?;
+        check_eq(clock.passed(2).local, 0)
+    }
+
+    #[test]
+    fn the_end_itself_may_be_had() -> Result<(), Fail> {
+        let clock: Clock = Clock {
+            global: END - 1,
+            local: END,
+        };
+        check(clock.passed(0).settled().is_some())?;
+        check(clock.passed(END).settled().is_none())?;
+        check(clock.counted().settled().is_none())
+    }
+}

@@ -104,3 +104,47 @@ impl Party {
 pub fn tables_are_in_words()
     ensures { λ _. ⌜ Tables-in-words ⌝ }
 {}
+
+#[cfg(test)]
+mod tests {
+    use super::*;
+    use std::test::*;
+
+    #[test]
+    fn a_store_to_a_lamp_is_overtaken_by_a_load() -> Result<(), Fail> {
+        let lamp = Access {
+            operation: Operation::StIo,
+            space: 1,
+            place: 3,
+        };
+        let other_lamp = Access {
+            operation: Operation::LdIo,
+            space: 2,
+            place: 3,
+        };
+        let word = Access {
+            operation: Operation::Ld,
+            space: 0,
+            place: 40,
+        };
+        check(!Party::Processor.orders(lamp, word))?;
+        check(!Party::Processor.orders(lamp, other_lamp))?;
+        check(Party::Processor.orders(other_lamp, word))
+    }
+
+    #[test]
+    fn a_report_comes_after_the_strip() -> Result<(), Fail> {
+        let strip = Access {
+            operation: Operation::StBlk,
+            space: 0,
+            place: 7,
+        };
+        let report = Access {
+            operation: Operation::Int,
+            space: 3,
+            place: 1,
+        };
+        check(Party::Device.orders(strip, report))?;
+        check(!Party::Device.orders(report, strip))
+    }
+}

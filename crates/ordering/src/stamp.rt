@@ -42,3 +42,30 @@ impl Stamp {
 pub fn stamps_are_ordered()
     ensures { λ _. ⌜ Strict-total-order ⌝ }
 {}
+
+#[cfg(test)]
+mod tests {
+    use super::*;
+    use std::test::*;
+
+    #[test]
+    fn global_then_local_then_node() -> Result<(), Fail> {
+        let low = Stamp {
+            global: 2,
+            local: 9,
+            node: 3,
+        };
+        let middle = Stamp {
+            global: 3,
+            local: 1,
+            node: 0,
+        };
+        let high = Stamp {
+            global: 3,
+            local: 1,
+            node: 4,
+        };
+        check(low.is_below(middle) && middle.is_below(high) && low.is_below(high))?;
+        check(!high.is_below(middle) && !low.is_below(low))
+    }
+}

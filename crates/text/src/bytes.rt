@@ -58,3 +58,27 @@ pub(crate) fn end_from(bytes: &[u8], at: usize, mark: u8) -> usize
     }
     end
 }
+
+#[cfg(test)]
+mod tests {
+    use super::*;
+    use crate::fields::Fields;
+    use std::test::*;
+
+    #[test]
+    fn numbers_end_at_32_bits() -> Result<(), Fail> {
+        check_eq(decimal(b"0004294967295"), Some(4_294_967_295))?;
+        check_eq(decimal(b"4294967296"), None)?;
+        check_eq(decimal(b""), None)?;
+        check_eq(decimal(b"7\r"), None)
+    }
+
+    #[test]
+    fn a_last_tab_opens_an_empty_field() -> Result<(), Fail> {
+        let mut fields = Fields::new(b"7\t");
+        check_eq(fields.number(), Some(7))?;
+        check(!fields.is_done())?;
+        check_eq(fields.number(), None)?;
+        check(fields.is_done())
+    }
+}

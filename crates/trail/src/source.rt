@@ -108,3 +108,53 @@ pub fn source(trail: &[Entry], entry: usize, word: u32) -> Result<Option<(usize,
 pub fn sources_are_latest()
     ensures { λ _. ⌜ Latest-write ⌝ }
 {}
+
+#[cfg(test)]
+mod tests {
+    use super::*;
+    use ordering::operation::Operation;
+    use ordering::operation::Words;
+    use std::test::*;
+
+    fn entry(operation: Operation, place: u32, value: u32, global: u64) -> Entry {
+        let values = Words::one(value);
+        let stamp = Stamp {
+            global,
+            local: 1,
+            node: 0,
+        };
+        Entry {
+            party: 0,
+            sequence: 0,
+            operation,
+            space: 0,
+            place,
+            values,
+            stamp,
+        }
+    }
+
+    #[test]
+    fn the_greatest_stamp_below_is_the_source() -> Result<(), Fail> {
+        let older = entry(Operation::St, 4, 7, 2);
+        let newer = entry(Operation::StBlk, 1, 8, 3);
+        let read = entry(Operation::Ld, 4, 7, 5);
+        let trail = [newer, older, read];
+        let Ok(Some((number, value))) = source(&trail, 2, 0) else {
+            return Err(Fail::new("no source"));
+        };
+        check_eq(number, 0)?;
+        check_eq(value, 8)?;
+        check(source(&trail, 2, 1).is_err() && source(&trail, 0, 0).is_err())
+    }
+
+    #[test]
+    fn a_block_past_the_last_word_is_another_word() -> Result<(), Fail> {
+        let far = entry(Operation::StBlk, 0x4000_0000, 9, 1);
+        let read = entry(Operation::Ld, 0, 0, 2);
+        let Ok(none) = source(&[far, read], 1, 0) else {
+            return Err(Fail::new("refused"));
+        };
+        check(none.is_none())
+    }
+}
