@@ -1,0 +1,5 @@
+pub mod Meaning
+pub mod Plates
+pub mod Scanners
+pub mod Sweeps
+pub mod Wishes
