@@ -2,4 +2,5 @@ pub mod Meaning
 pub mod Plates
 pub mod Scanners
 pub mod Sweeps
+pub mod Windows
 pub mod Wishes

@@ -4,3 +4,4 @@ pub mod meaning;
 pub mod plate_setter;
 pub mod scanner;
 mod sweep;
+pub mod window;
