@@ -1,3 +1,5 @@
+pub mod Courses
+pub mod Events
 pub mod Meaning
 pub mod Plates
 pub mod Scanners
