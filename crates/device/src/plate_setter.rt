@@ -12,8 +12,6 @@ use crate::sweep::Sweep;
 use ordering::operation::Operation;
 use ordering::operation::Words;
 
-const COUNT: u32 = 12;
-
 const COMMAND: u32 = 4;
 
 const FIRST_BLOCK: usize = 5;
@@ -63,14 +61,14 @@ pub impl Device for PlateSetter as PlateSetterDevice {
     }
 
     fn read(&mut self, place: u32) -> Result<u32, NoWord> {
-        if place >= COUNT {
+        if place >= self.count() {
             return Err(NoWord { place });
         }
         Ok(self.words[place as usize])
     }
 
     fn write(&mut self, place: u32, value: u32) -> Result<(), NoWord> {
-        if place >= COUNT {
+        if place >= self.count() {
             return Err(NoWord { place });
         }
         if place == COMMAND {

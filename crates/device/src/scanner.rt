@@ -12,8 +12,6 @@ use crate::sweep::Sweep;
 use ordering::operation::Operation;
 use ordering::operation::Words;
 
-const COUNT: u32 = 8;
-
 const COMMAND: u32 = 0;
 
 const FIRST_BLOCK: usize = 1;
@@ -82,14 +80,14 @@ pub impl Device for Scanner as ScannerDevice {
     }
 
     fn read(&mut self, place: u32) -> Result<u32, NoWord> {
-        if place >= COUNT {
+        if place >= self.count() {
             return Err(NoWord { place });
         }
         Ok(self.words[place as usize])
     }
 
     fn write(&mut self, place: u32, value: u32) -> Result<(), NoWord> {
-        if place >= COUNT {
+        if place >= self.count() {
             return Err(NoWord { place });
         }
         if place == COMMAND {

@@ -1,4 +1,4 @@
--- An order, and what a device is once it was given.
+-- What a device is once an order was given to it.
 use mathlib.Core.List.{List, [], _∷_}
 use Prim.Native.Nat.{ℕ}
 use Rattle.std.specs.declared.result.Result.{Result}
@@ -6,12 +6,6 @@ use Rattle.std.specs.declared.result.Result.the-variants.{Ok, Err}
 use Rattle.device.specs.declared.meaning.NoWord.{NoWord}
 use Rattle.device.specs.Meaning.{Meaning, write-exit, write-answer}
 use Rattle.sweep.specs.declared.order.Order.{Order}
-
-abbrev pub start : ℕ → ℕ → ℕ → ℕ → Order
-start f n p row = record { command = 1; first = f; count = n; processor = p; row = row }
-
-abbrev pub stop : Order
-stop = record { command = 0; first = 0; count = 0; processor = 0; row = 0 }
 
 -- Writes one after the other, up to the first that is refused.
 abbrev pub write-all : {S : Type 0} → Meaning S → S → List (ℕ × ℕ) → Result (Unit {0}) NoWord × S
@@ -21,4 +15,7 @@ write-all m s (w ∷ ws) =
 
 abbrev pub given : {S : Type 0} → Meaning S → S → Order → Result (Unit {0}) NoWord × S
 given m s o =
-    write-all m s ((1, o .first) ∷ (2, o .count) ∷ (3, o .processor) ∷ (4, o .row) ∷ (0, o .command) ∷ [])
+    write-all m s ((1, o .first) ∷ (2, o .count) ∷ (3, o .processor) ∷ (4, o .row) ∷ (0, 1) ∷ [])
+
+abbrev pub stopped : {S : Type 0} → Meaning S → S → Result (Unit {0}) NoWord × S
+stopped m s = write-all m s ((0, 0) ∷ [])

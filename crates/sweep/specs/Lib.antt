@@ -1,1 +1,2 @@
+pub mod Copiers
 pub mod Given

@@ -1,13 +1,22 @@
-//! What is written to a device to have it sweep: command, first block, count, processor, and a row's first word.
+//! What is written to a device to have it sweep, and to stop it.
 
 ghost use mathlib.Core.Path.{_≡_};
-ghost use Rattle.sweep.specs.Given.{given, start, stop};
+ghost use Rattle.sweep.specs.Given.{given, stopped};
 use device::meaning::Device;
 use device::meaning::NoWord;
 
+const COMMAND: u32 = 0;
+
+const FIRST_BLOCK: u32 = 1;
+
+const BLOCK_COUNT: u32 = 2;
+
+const PROCESSOR: u32 = 3;
+
+const ROW: u32 = 4;
+
 #[derive(Clone, Copy)]
 pub struct Order {
-    pub command: u32,
     pub first: u32,
     pub count: u32,
     pub processor: u32,
@@ -15,38 +24,20 @@ pub struct Order {
 }
 
 impl Order {
-    pub fn start(first: u32, count: u32, processor: u32, row: u32) -> Order
-        ensures { λ r. ⌜ r ≡ start first count processor row ⌝ }
-    {
-        Order {
-            command: 1,
-            first,
-            count,
-            processor,
-            row,
-        }
-    }
-
-    pub fn stop() -> Order
-        ensures { λ r. ⌜ r ≡ stop ⌝ }
-    {
-        Order {
-            command: 0,
-            first: 0,
-            count: 0,
-            processor: 0,
-            row: 0,
-        }
-    }
-
-    /// Writes the order to the device's words, the command last; a word that it has not ends it.
+    /// Writes the order to the device's words and then starts it; a word that it has not ends that.
     pub fn give<D: Device>(self, device: &mut D) -> Result<(), NoWord>
         ensures { λ r. ⌜ (r, D·Device .state (now (device .exit))) ≡ given (D·Device .meaning) (D·Device .state (now (device .entry))) self ⌝ }
     {
-        device.write(1, self.first)?;
-        device.write(2, self.count)?;
-        device.write(3, self.processor)?;
-        device.write(4, self.row)?;
-        device.write(0, self.command)
+        device.write(FIRST_BLOCK, self.first)?;
+        device.write(BLOCK_COUNT, self.count)?;
+        device.write(PROCESSOR, self.processor)?;
+        device.write(ROW, self.row)?;
+        device.write(COMMAND, 1)
     }
+}
+
+pub fn stop<D: Device>(device: &mut D) -> Result<(), NoWord>
+    ensures { λ r. ⌜ (r, D·Device .state (now (device .exit))) ≡ stopped (D·Device .meaning) (D·Device .state (now (device .entry))) ⌝ }
+{
+    device.write(COMMAND, 0)
 }

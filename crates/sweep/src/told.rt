@@ -14,8 +14,10 @@ pub impl fmt::Display for Told as ToldDisplay {
         let [a, b, c, d] = wish.words.at;
         match wish.operation {
             Operation::Int => write!(f, "{name} to processor {} with {a}", wish.processor),
+            Operation::LdBlk => write!(f, "{name} of block {}", wish.place),
             Operation::StBlk => write!(f, "{name} of block {}: {a} {b} {c} {d}", wish.place),
-            _ => write!(f, "{name} of block {}", wish.place),
+            Operation::StIo => write!(f, "{name} of word {}: {a}", wish.place),
+            _ => write!(f, "{name} of word {}", wish.place),
         }
     }
 }
