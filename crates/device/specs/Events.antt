@@ -1,7 +1,7 @@
 -- What is done to a device, call after call, and what its words then are.
 use mathlib.Core.Path.{_≡_}
 use mathlib.Core.List.{List, [], _∷_}
-use Prim.Native.Nat.{ℕ, zero, suc}
+use Prim.Native.Nat.{ℕ, suc}
 use lib.ListN.{set}
 use Rattle.ordering.specs.declared.operation.Words.{Words}
 use Rattle.device.specs.Meaning.{Meaning, read-exit, write-exit}

@@ -4,7 +4,6 @@ use Prim.Native.Nat.{ℕ}
 use lib.Dec.{eqb}
 use lib.ListN.{getD, set, replicate}
 use Rattle.std.specs.declared.option.Option.{Option}
-use Rattle.std.specs.declared.option.Option.the-variants.{Some, None}
 use Rattle.ordering.specs.declared.operation.Operation.the-variants.{LdBlk}
 use Rattle.ordering.specs.Words.{no-words}
 use Rattle.device.specs.declared.meaning.Wish.{Wish}
@@ -20,7 +19,9 @@ blank-plate = record { words = replicate 12 0; sweep = Idle }
 -- Each block is read, and then the processor interrupted with value 1.
 abbrev pub plate-wish : PlateSetter → Option Wish
 plate-wish s =
-    wished (λ b. block-wish LdBlk b no-words) (interrupt-wish (getD (s .words) 7 0) 1) (stage-of (s .sweep))
+    wished (λ b. block-wish LdBlk b no-words)
+    (interrupt-wish (getD (s .words) 7 0) 1)
+    (stage-of (s .sweep))
 
 abbrev pub plate-writing : PlateSetter → ℕ → ℕ → PlateSetter
 plate-writing s p v = record {

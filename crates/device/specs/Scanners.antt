@@ -23,7 +23,9 @@ row-from w = record { at = w ∷ ((w + 1) % 2 ^ 32) ∷ ((w + 2) % 2 ^ 32) ∷ (
 -- The row is stored to each block, and then the processor interrupted with value 2.
 abbrev pub scanner-wish : Scanner → Option Wish
 scanner-wish s =
-    wished (λ b. block-wish StBlk b (row-from (getD (s .words) 4 0))) (interrupt-wish (getD (s .words) 3 0) 2) (stage-of (s .sweep))
+    wished (λ b. block-wish StBlk b (row-from (getD (s .words) 4 0)))
+    (interrupt-wish (getD (s .words) 3 0) 2)
+    (stage-of (s .sweep))
 
 abbrev pub scanner-writing : Scanner → ℕ → ℕ → Scanner
 scanner-writing s p v = record {

@@ -2,7 +2,7 @@
 //! state, and the state that follows each call. Code over any device is proved against these alone.
 
 ghost use mathlib.Core.Path.{_≡_};
-ghost use Prim.Native.Nat.{ℕ, _≤_};
+ghost use Prim.Native.Nat.{_≤_};
 ghost use lib.ListN.{length};
 ghost use Rattle.device.specs.Meaning.{Meaning, Laws, read-exit, read-answer, write-exit, write-answer};
 ghost use Rattle.device.specs.Wishes.{block-wish, interrupt-wish};
