@@ -1,2 +1,3 @@
+pub mod Acts
 pub mod Copiers
-pub mod Given
+pub mod Orders

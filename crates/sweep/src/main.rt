@@ -1,14 +1,15 @@
 //! Devices at work: each is told what to do through its words, and its wishes are shown as they are accepted.
 
+mod act;
 mod copier;
 mod order;
 mod told;
 
+use act::act;
 use copier::Copier;
 use copier::CopierDevice;
 use device::meaning::Device;
 use device::meaning::NoWord;
-use device::meaning::Wish;
 use device::plate_setter::PlateSetter;
 use device::plate_setter::PlateSetterDevice;
 use device::scanner::Scanner;
@@ -16,24 +17,9 @@ use device::scanner::ScannerDevice;
 use device::window::Window;
 use device::window::WindowDevice;
 use order::Order;
-use ordering::operation::Operation;
 use std::io;
 use told::Told;
 use told::ToldDisplay;
-
-// Does an LDio or STio at the device itself, and accepts the wish.
-fn accept<D: Device>(device: &mut D, wish: Wish) -> Result<(), NoWord> {
-    let word = match wish.operation {
-        Operation::LdIo => device.read(wish.place)?,
-        Operation::StIo => {
-            device.write(wish.place, wish.words.at[0])?;
-            0
-        }
-        _ => 0,
-    };
-    device.accepted(word);
-    Ok(())
-}
 
 fn report(rt: &impl Print, done: Result<(), NoWord>) -> io::Result<()> {
     match done {
@@ -49,7 +35,7 @@ fn play<D: Device>(rt: &impl Print, device: &mut D, most: u32) -> io::Result<()>
             return println!(rt, "  no wish");
         };
         println!(rt, "  {}", Told(wish))?;
-        report(rt, accept(device, wish))?;
+        report(rt, act(device, wish))?;
     }
     Ok(())
 }
@@ -64,67 +50,19 @@ fn sweeps(rt: &impl Print) -> io::Result<()> {
     let mut scanner = Scanner::new();
 
     println!(rt, "plate setter: 4 blocks from 3")?;
-    sweep(
-        rt,
-        &mut setter,
-        Order {
-            first: 3,
-            count: 4,
-            processor: 2,
-            row: 0,
-        },
-        8,
-    )?;
+    sweep(rt, &mut setter, Order::new(3, 4, 2), 8)?;
     println!(rt, "scanner: 3 blocks from 0")?;
-    sweep(
-        rt,
-        &mut scanner,
-        Order {
-            first: 0,
-            count: 3,
-            processor: 1,
-            row: 10,
-        },
-        8,
-    )?;
+    report(rt, scanner.write(4, 10))?;
+    sweep(rt, &mut scanner, Order::new(0, 3, 1), 8)?;
     println!(rt, "plate setter: no blocks")?;
-    sweep(
-        rt,
-        &mut setter,
-        Order {
-            first: 0,
-            count: 0,
-            processor: 1,
-            row: 0,
-        },
-        8,
-    )?;
+    sweep(rt, &mut setter, Order::new(0, 0, 1), 8)?;
     println!(rt, "plate setter: 4 blocks from 8, stopped after two")?;
-    sweep(
-        rt,
-        &mut setter,
-        Order {
-            first: 8,
-            count: 4,
-            processor: 0,
-            row: 0,
-        },
-        2,
-    )?;
+    sweep(rt, &mut setter, Order::new(8, 4, 0), 2)?;
     report(rt, order::stop(&mut setter))?;
     play(rt, &mut setter, 8)?;
     println!(rt, "scanner: 3 blocks across the end of 32 bits")?;
-    sweep(
-        rt,
-        &mut scanner,
-        Order {
-            first: u32::MAX - 1,
-            count: 3,
-            processor: 3,
-            row: u32::MAX,
-        },
-        8,
-    )
+    report(rt, scanner.write(4, u32::MAX))?;
+    sweep(rt, &mut scanner, Order::new(u32::MAX - 1, 3, 3), 8)
 }
 
 fn copies(rt: &impl Print) -> io::Result<()> {
