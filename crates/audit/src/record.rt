@@ -4,12 +4,12 @@
 ghost use mathlib.Core.Path.{_≡_};
 ghost use Rattle.audit.specs.Recorded.{named, next-named, next-words, after-words, next-stamp, after-stamp, recorded};
 ghost use Rattle.std.specs.Slices.{found};
+ghost use Rattle.std.specs.shelf.Text.{sameBytes};
 ghost use Rattle.text.specs.Parts.{unread, other-fields};
 use ordering::operation::Operation;
 use ordering::operation::Words;
 use ordering::stamp::Stamp;
 use text::Fields;
-use text::same;
 use trail::entry::Entry;
 
 /// Fills memory in which no entry stands yet.
@@ -26,6 +26,12 @@ pub const NO_ENTRY: Entry = Entry {
         node: 0,
     },
 };
+
+fn same(one: &[u8], other: &[u8]) -> bool
+    ensures { λ r. ⌜ r ≡ sameBytes (now (one .entry)) (now (other .entry)) ⌝ }
+{
+    one == other
+}
 
 fn operation_named(field: &[u8]) -> Option<Operation>
     ensures { λ r. ⌜ r ≡ named (now (field .entry)) ⌝ }

@@ -1,17 +1,10 @@
-//! Runs of bytes: whether two are the same, where one ends, and the number that one spells.
+//! Runs of bytes: where one ends, and the number that one spells.
 
 ghost use mathlib.Core.Path.{_≡_};
 ghost use Prim.Native.Nat.{_+_, _-_, _≤_};
 ghost use lib.ListN.{length, take, drop};
-ghost use Rattle.std.specs.shelf.Text.{sameBytes};
 ghost use Rattle.text.specs.Numbers.{decimal, with-digit};
 ghost use Rattle.text.specs.Parts.{before, after, left};
-
-pub fn same(one: &[u8], other: &[u8]) -> bool
-    ensures { λ r. ⌜ r ≡ sameBytes (now (one .entry)) (now (other .entry)) ⌝ }
-{
-    one == other
-}
 
 // The number with one more digit, unless the byte is none or the number leaves 32 bits.
 fn with_digit(number: u32, byte: u8) -> Option<u32>

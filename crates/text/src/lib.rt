@@ -5,6 +5,5 @@ mod fields;
 mod lines;
 
 pub use bytes::decimal;
-pub use bytes::same;
 pub use fields::Fields;
 pub use lines::Lines;
