@@ -1,0 +1,4 @@
+pub mod Copies
+pub mod Fetching
+pub mod Stamping
+pub mod Tables

@@ -21,9 +21,9 @@ use Rattle.message.specs.declared.kind.Kind.{Kind}
 use Rattle.message.specs.declared.kind.Kind.the-variants.{Gets, Getx, Upg, Wb, Rio, Wio}
 use Rattle.message.specs.declared.message.Message.{Message}
 use Rattle.message.specs.declared.reaction.Reaction.{Reaction}
-use Rattle.processor.specs.Lines.{line, held-words, owned-words, block-of, word-of, with-word}
+use Rattle.processor.specs.Lines.{line-at, held-words, owned-words, block-of, word-of, with-word}
 use Rattle.processor.specs.Reacting.{telling, quiet, sending, doing}
-use Rattle.processor.specs.Slots.{slot, is-free, awaited-device}
+use Rattle.processor.specs.Slots.{slot-at, is-free, awaited-device}
 use Rattle.processor.specs.States.{at-clock, at-line, at-request, at-slot, at-register, numbered}
 use Rattle.processor.specs.declared.line.Line.{Line}
 use Rattle.processor.specs.declared.line.Line.the-variants.{Invalid, Shared, Exclusive}
@@ -53,7 +53,7 @@ operated s = numbered (at-clock (counted (s .clock)) s)
 -- LD of a word of memory, on a line S or X.
 abbrev pub load : Processor ℕ → ℕ → ℕ → Answer
 load s n w =
-    elim (held-words (line (s .lines) (block-of w))) [
+    elim (held-words (line-at (s .lines) (block-of w))) [
       | None ↦ Err (NotHeld (block-of w))
       | Some ws ↦ elim (awaited-device (s .slots)) [
         | Some d ↦ Err (Awaits d)
@@ -64,7 +64,7 @@ load s n w =
 -- ST to a word of memory, on a line X.
 abbrev pub store : Processor ℕ → ℕ → ℕ → ℕ → Answer
 store s n w v =
-    elim (owned-words (line (s .lines) (block-of w))) [
+    elim (owned-words (line-at (s .lines) (block-of w))) [
       | None ↦ Err (NotHeld (block-of w))
       | Some ws ↦ elim (awaited-device (s .slots)) [
         | Some d ↦ Err (Awaits d)
@@ -80,7 +80,7 @@ fits (Exclusive ws) k = same-kind k Wb
 
 abbrev pub request : Processor ℕ → ℕ → ℕ → Kind → Answer
 request s n b k =
-    cond (ltb b 16 && fits (line (s .lines) b) k)
+    cond (ltb b 16 && fits (line-at (s .lines) b) k)
     (elim (out (s .requests) b) [
       | Some j ↦ Err (RequestOut b)
       | None ↦ Ok (sending (plain k n (home-node b) b) (at-request b (Some k) s))
@@ -104,7 +104,7 @@ to-device k s n d w ws = record {
 -- LDio sends Rio and takes the device's slot. (A device that is not there has no slot to take.)
 abbrev pub ldio : Processor ℕ → ℕ → ℕ → ℕ → Answer
 ldio s n d w =
-    cond (ltb d 2 && is-free (slot (s .slots) d))
+    cond (ltb d 2 && is-free (slot-at (s .slots) d))
     (Ok (sending (to-device Rio s n d w no-words) (at-slot d Awaited (numbered s))))
     (Err (SlotTaken d))
 
@@ -118,7 +118,7 @@ stio s n d w v =
 -- Collect tells a word that came and frees the slot.
 abbrev pub collect : Processor ℕ → ℕ → Answer
 collect s d =
-    elim (slot (s .slots) d) [
+    elim (slot-at (s .slots) d) [
       | Free ↦ Err (NotCollectable d)
       | Awaited ↦ Err (NotCollectable d)
       | Abandoned ↦ Err (NotCollectable d)
@@ -128,7 +128,7 @@ collect s d =
 -- Give up frees a slot whose word came; one whose word is awaited stays taken, and nobody holds it.
 abbrev pub give-up : Processor ℕ → ℕ → Answer
 give-up s d =
-    elim (slot (s .slots) d) [
+    elim (slot-at (s .slots) d) [
       | Free ↦ Err (NotCollectable d)
       | Awaited ↦ Ok (quiet (at-slot d Abandoned s))
       | Abandoned ↦ Err (NotCollectable d)

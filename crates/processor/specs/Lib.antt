@@ -1,6 +1,9 @@
 pub mod Calls
+pub mod Inputs
+pub mod Laws
 pub mod Lines
 pub mod Reacting
+pub mod Receive
 pub mod Refusals
 pub mod Slots
 pub mod States

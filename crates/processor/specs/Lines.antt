@@ -10,8 +10,8 @@ use Rattle.processor.specs.declared.line.Line.the-variants.{Invalid, Shared, E
 use Rattle.processor.specs.declared.line.Lines.{Lines}
 
 -- A line past the last block is Invalid.
-abbrev pub line : Lines → ℕ → Line
-line ls b = getD (ls .at) b Invalid
+abbrev pub line-at : Lines → ℕ → Line
+line-at ls b = getD (ls .at) b Invalid
 
 abbrev pub with-line : Lines → ℕ → Line → Lines
 with-line ls b l = record { at = set (ls .at) b l }

@@ -8,8 +8,8 @@ use Rattle.processor.specs.declared.slot.Slot.{Slot}
 use Rattle.processor.specs.declared.slot.Slot.the-variants.{Free, Awaited, Abandoned, Came}
 use Rattle.processor.specs.declared.slot.Slots.{Slots}
 
-abbrev pub slot : Slots → ℕ → Slot
-slot ss d = getD (ss .at) d Free
+abbrev pub slot-at : Slots → ℕ → Slot
+slot-at ss d = getD (ss .at) d Free
 
 abbrev pub with-slot : Slots → ℕ → Slot → Slots
 with-slot ss d x = record { at = set (ss .at) d x }
@@ -29,4 +29,4 @@ is-awaited (Came v) = false
 
 -- The lowest device from which a word has yet to come.
 abbrev pub awaited-device : Slots → Option ℕ
-awaited-device ss = cond (is-awaited (slot ss 0)) (Some 0) (cond (is-awaited (slot ss 1)) (Some 1) None)
+awaited-device ss = cond (is-awaited (slot-at ss 0)) (Some 0) (cond (is-awaited (slot-at ss 1)) (Some 1) None)

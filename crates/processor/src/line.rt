@@ -1,7 +1,7 @@
 //! Cache lines: a processor's copy of each block, if it has one.
 
 ghost use mathlib.Core.Path.{_≡_};
-ghost use Rattle.processor.specs.Lines.{line, with-line, held-words, owned-words, word-of, with-word};
+ghost use Rattle.processor.specs.Lines.{line-at, with-line, held-words, owned-words, word-of, with-word};
 use ordering::operation::Words;
 
 #[derive(Clone, Copy)]
@@ -40,7 +40,7 @@ pub struct Lines {
 
 impl Lines {
     pub fn line(self, block: u32) -> Line
-        ensures { λ r. ⌜ r ≡ line self block ⌝ }
+        ensures { λ r. ⌜ r ≡ line-at self block ⌝ }
     {
         if block >= 16 {
             return Line::Invalid;

@@ -1,7 +1,7 @@
 //! Slots: one for each device, for the word of an LDio that is under way or has come.
 
 ghost use mathlib.Core.Path.{_≡_};
-ghost use Rattle.processor.specs.Slots.{slot, with-slot, is-awaited, awaited-device};
+ghost use Rattle.processor.specs.Slots.{slot-at, with-slot, is-awaited, awaited-device};
 
 #[derive(Clone, Copy)]
 pub enum Slot {
@@ -29,7 +29,7 @@ pub struct Slots {
 
 impl Slots {
     pub fn slot(self, device: u32) -> Slot
-        ensures { λ r. ⌜ r ≡ slot self device ⌝ }
+        ensures { λ r. ⌜ r ≡ slot-at self device ⌝ }
     {
         if device >= 2 {
             return Slot::Free;
