@@ -12,8 +12,8 @@ use Rattle.processor.specs.declared.line.Line.the-variants.{Invalid, Shared}
 
 pub asked-lines-give-way : Asked-lines-give-way
 asked-lines-give-way = record {
-  inv = λ s n h b r e. grind (arith, tells, put-read (s .lines .at) b b Invalid Invalid);
-  down = λ s n h b r e ws k. grind (arith, tells, put-read (s .lines .at) b b (Shared ws) Invalid);
+  inv = λ s n m r h e. grind (arith, tells, put-read (s .lines .at) (m .place) (m .place) Invalid Invalid);
+  down = λ s n m r h e ws k. grind (arith, tells, put-read (s .lines .at) (m .place) (m .place) (Shared ws) Invalid);
 }
 
 stays : Held-words-stay
@@ -47,9 +47,9 @@ only-stores-change-words = record {
 }
 
 pub nack-only-ends : Nack-only-ends
-nack-only-ends s b k r h = record {
-  ended = grind (arith, tells, put-read (s .requests .at) b b None None);
-  others = λ c ne. grind (arith, tells, put-read (s .requests .at) b c None None);
+nack-only-ends s n m r h k = record {
+  ended = grind (arith, tells, put-read (s .requests .at) (m .place) (m .place) None None);
+  others = λ c ne. grind (arith, tells, put-read (s .requests .at) (m .place) c None None);
   clock = grind (arith, tells);
   sequence = grind (arith, tells);
   lines = grind (arith, tells);

@@ -10,6 +10,7 @@ use Rattle.processor.proofs.Tables.{put-read}
 use Rattle.processor.specs.Inputs.{Load, Store, Request, Ldio, Stio, Collect, Give-up, Poll, Receive}
 use Rattle.processor.specs.Laws.{Abandoned-stays, Given-up-slots-stay-taken, Own-operations-wait, Four-words, Told-words-are-true}
 use Rattle.processor.specs.Lines.{line-at, held-words, block-of, word-of, with-word}
+use Rattle.processor.specs.Receive.{first-word}
 use Rattle.processor.specs.declared.slot.Slot.the-variants.{Free, Came}
 use Rattle.processor.specs.declared.state.Processor.{Processor}
 
@@ -40,7 +41,9 @@ pub told-words-are-true : Told-words-are-true
 told-words-are-true = record {
   loaded = λ s n w r h e k. grind (arith, tells);
   entered = λ s n w r h. grind (arith, tells);
-  polled = λ s n p q v c e h. grind (arith, tells);
+  polled = λ s n m r h e k. grind (arith, tells);
   stored = λ s n w v r q f h k. grind (arith, tells, put-word s w v f, put-read (s .lines .at) (block-of w) (block-of w));
-  collected = λ s d v c r q h k. grind (arith, tells, put-read (s .slots .at) d d (Came v) Free, put-read (s .slots .at) d d Free Free);
+  collected = λ s n d m r q h e k l.
+      let from : m .sender - 4 ≡ d = omega arith in
+      grind (arith, tells, put-read (s .slots .at) d d (Came (first-word (m .words))) Free, put-read (s .slots .at) d d Free Free);
 }

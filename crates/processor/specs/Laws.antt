@@ -23,10 +23,10 @@ use Rattle.message.specs.declared.reaction.Reaction.{Reaction}
 use Rattle.processor.specs.Calls.{load, store, ldio, collect, poll}
 use Rattle.processor.specs.Inputs.{Input, reaction, message-of, stored-word}
 use Rattle.processor.specs.Lines.{line-at, held-words, block-of}
-use Rattle.processor.specs.Receive.{receive, invalidated, downgraded, nacked, interrupted, fetched, first-word}
+use Rattle.processor.specs.Receive.{receive, first-word}
 use Rattle.processor.specs.Slots.{slot-at, is-awaited}
 use Rattle.processor.specs.States.{made}
-use Rattle.processor.specs.declared.line.Line.the-variants.{Invalid, Shared, Exclusive}
+use Rattle.processor.specs.declared.line.Line.the-variants.{Invalid, Shared}
 use Rattle.processor.specs.declared.refusal.Refusal.the-variants.{SlotTaken}
 use Rattle.processor.specs.declared.slot.Slot.the-variants.{Abandoned}
 use Rattle.processor.specs.declared.state.Processor.{Processor}
@@ -66,8 +66,8 @@ pub record Entries-are-stamped : Type 0 where
 
 -- INV leaves the line I; DOWN leaves it S, with its words.
 pub record Asked-lines-give-way : Type 0 where
-  pub inv : (s : Processor ℕ) (n h b : ℕ) (r : Reaction (Processor ℕ)) → invalidated s n h b ≡ Some r → line-at (r .next .lines) b ≡ Invalid
-  pub down : (s : Processor ℕ) (n h b : ℕ) (r : Reaction (Processor ℕ)) → downgraded s n h b ≡ Some r → (ws : Words) → line-at (s .lines) b ≡ Exclusive ws → line-at (r .next .lines) b ≡ Shared ws
+  pub inv : (s : Processor ℕ) (n : ℕ) (m : Message ℕ) (r : Reaction (Processor ℕ)) → receive s n m ≡ Some r → same-kind (m .kind) kind.Inv ≡ true → line-at (r .next .lines) (m .place) ≡ Invalid
+  pub down : (s : Processor ℕ) (n : ℕ) (m : Message ℕ) (r : Reaction (Processor ℕ)) → receive s n m ≡ Some r → same-kind (m .kind) kind.Down ≡ true → (ws : Words) → held-words (line-at (s .lines) (m .place)) ≡ Some ws → line-at (r .next .lines) (m .place) ≡ Shared ws
 
 -- A copy is asked for, by GETS or GETX, only while none is held.
 abbrev pub Copies-are-missing : Processor ℕ → Type 0
@@ -100,7 +100,7 @@ pub record Only-ends-the-request (s : Processor ℕ) (b : ℕ) (r : Reaction (Pr
   pub tells : r .answer ≡ None
 
 abbrev pub Nack-only-ends : Type 0
-Nack-only-ends = (s : Processor ℕ) (b : ℕ) (k : Option Kind) (r : Reaction (Processor ℕ)) → nacked s b k ≡ Some r → Only-ends-the-request s b r
+Nack-only-ends = (s : Processor ℕ) (n : ℕ) (m : Message ℕ) (r : Reaction (Processor ℕ)) → receive s n m ≡ Some r → same-kind (m .kind) kind.Nack ≡ true → Only-ends-the-request s (m .place) r
 
 -- A slot that was given up before its word came stays taken until VALUE comes from its device; no LDio gets it.
 abbrev pub Abandoned-stays : Type 0
@@ -123,9 +123,9 @@ Four-words s = (b : ℕ) (ws : Words) → held-words (line-at (s .lines) b) ≡ 
 pub record Told-words-are-true : Type 0 where
   pub loaded : (s : Processor ℕ) (n w : ℕ) (r : Reaction (Processor ℕ)) → load s n w ≡ Ok r → (e : Entry) → r .entry ≡ Some e → r .answer ≡ Some (first-word (e .values))
   pub entered : (s : Processor ℕ) (n w : ℕ) (r : Reaction (Processor ℕ)) → load s n w ≡ Ok r → isSome (r .entry) ≡ true
-  pub polled : (s : Processor ℕ) (n p q v c : ℕ) (e : Entry) → interrupted s n p q v c .entry ≡ Some e → poll (interrupted s n p q v c .next) .answer ≡ Some (first-word (e .values))
+  pub polled : (s : Processor ℕ) (n : ℕ) (m : Message ℕ) (r : Reaction (Processor ℕ)) → receive s n m ≡ Some r → (e : Entry) → r .entry ≡ Some e → poll (r .next) .answer ≡ Some (first-word (e .values))
   pub stored : (s : Processor ℕ) (n w v : ℕ) (r q : Reaction (Processor ℕ)) → Four-words s → store s n w v ≡ Ok r → load (r .next) n w ≡ Ok q → q .answer ≡ Some v
-  pub collected : (s : Processor ℕ) (d v c : ℕ) (r q : Reaction (Processor ℕ)) → fetched s d v c ≡ Some r → collect (r .next) d ≡ Ok q → q .answer ≡ Some v
+  pub collected : (s : Processor ℕ) (n d : ℕ) (m : Message ℕ) (r q : Reaction (Processor ℕ)) → receive s n m ≡ Some r → same-kind (m .kind) kind.Value ≡ true → m .sender ≡ device-node d → collect (r .next) d ≡ Ok q → q .answer ≡ Some (first-word (m .words))
 
 -- The kinds that a processor has a rule for.
 abbrev pub is-for-processor : Kind → Bool
