@@ -50,6 +50,10 @@ operation-entry s n o w v = record {
 abbrev pub operated : Processor ℕ → Processor ℕ
 operated s = numbered (at-clock (counted (s .clock)) s)
 
+-- An operation waits for the word of every own LDio, given up or not.
+abbrev pub fetched-all : Processor ℕ → Result (Unit {0}) Refusal
+fetched-all s = elim (awaited-device (s .slots)) [ None ↦ Ok tt | Some d ↦ Err (Awaits d) ]
+
 -- LD of a word of memory, on a line S or X.
 abbrev pub load : Processor ℕ → ℕ → ℕ → Answer
 load s n w =

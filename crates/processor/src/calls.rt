@@ -1,7 +1,7 @@
 //! What a processor does at each call: its reaction, or why it refuses. `node` is its own number.
 
 ghost use mathlib.Core.Path.{_≡_};
-ghost use Rattle.processor.specs.Calls.{operation-entry, load, store, fits, request, to-device, ldio, stio, collect, give-up, poll};
+ghost use Rattle.processor.specs.Calls.{operation-entry, fetched-all, load, store, fits, request, to-device, ldio, stio, collect, give-up, poll};
 use crate::line::Line;
 use crate::line::with_word;
 use crate::line::word_of;
@@ -45,6 +45,16 @@ impl Processor {
         }
     }
 
+    // The word of every own LDio has come.
+    fn fetched_all(self) -> Result<(), Refusal>
+        ensures { λ r. ⌜ r ≡ fetched-all self ⌝ }
+    {
+        match self.slots.awaited() {
+            None => Ok(()),
+            Some(device) => Err(Refusal::Awaits(device)),
+        }
+    }
+
     /// An LD: tells the word.
     pub fn load(self, node: u32, word: u32) -> Result<Reaction<Processor<u64>>, Refusal>
         ensures { λ r. ⌜ r ≡ load self node word ⌝ }
@@ -53,9 +63,7 @@ impl Processor {
         let Some(words) = self.lines.line(block).held() else {
             return Err(Refusal::NotHeld(block));
         };
-        if let Some(device) = self.slots.awaited() {
-            return Err(Refusal::Awaits(device));
-        }
+        self.fetched_all()?;
         let value = word_of(words, word);
         let next = Processor {
             clock: self.clock.counted(),
@@ -81,9 +89,7 @@ impl Processor {
         let Some(words) = self.lines.line(block).owned() else {
             return Err(Refusal::NotHeld(block));
         };
-        if let Some(device) = self.slots.awaited() {
-            return Err(Refusal::Awaits(device));
-        }
+        self.fetched_all()?;
         let line = Line::Exclusive(with_word(words, word, value));
         let next = Processor {
             clock: self.clock.counted(),

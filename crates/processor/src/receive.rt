@@ -87,8 +87,9 @@ impl Processor {
     fn taking(self, node: u32, home: u32, block: u32, clock: u32) -> Reaction<Processor<u64>>
         ensures { λ r. ⌜ r ≡ taking self node home block clock ⌝ }
     {
+        let clock = self.clock.passed(clock);
         let next = Processor {
-            clock: self.clock.passed(clock),
+            clock,
             requests: self.requests.with(block, None),
             ..self.wide()
         };
