@@ -1,4 +1,5 @@
 pub mod Calls
+pub mod Cases
 pub mod Inputs
 pub mod Laws
 pub mod Lines

@@ -1,5 +1,6 @@
 //! What holds of every reaction of a processor, whatever its state and whatever came.
 
+ghost use Rattle.processor.specs.Cases.{Worked-cases};
 ghost use Rattle.processor.specs.Laws.{Clocks-go-on, Entries-are-stamped, Asked-lines-give-way, Only-stores-change-words, Nack-only-ends, Given-up-slots-stay-taken, Own-operations-wait, Told-words-are-true, Processors-keep-to-their-part};
 
 /// No reaction takes the clock back, and one that does an operation takes it on; after a message whose
@@ -46,4 +47,9 @@ pub fn told_words_are_true()
 /// A kind that is not a processor's has no rule, and no reaction sends more than one message.
 pub fn processors_keep_to_their_part()
     ensures { λ _. ⌜ Processors-keep-to-their-part ⌝ }
+{}
+
+/// Worked runs of one processor come out as they should.
+pub fn worked_cases_come_out()
+    ensures { λ _. ⌜ Worked-cases ⌝ }
 {}
