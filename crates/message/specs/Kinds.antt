@@ -1,7 +1,7 @@
 -- The twenty kinds of message and their numbers.
 use mathlib.Core.Bool.{Bool, cond}
 use Prim.Native.Nat.{ℕ}
-use lib.Dec.{eqb}
+use lib.Dec.{eqb, leb}
 use Rattle.std.specs.declared.option.Option.{Option}
 use Rattle.std.specs.declared.option.Option.the-variants.{Some, None}
 use Rattle.message.specs.declared.kind.Kind.{Kind}
@@ -31,6 +31,10 @@ kind-number Taken = 20
 
 abbrev pub same-kind : Kind → Kind → Bool
 same-kind j k = eqb (kind-number j) (kind-number k)
+
+-- What a home is asked for its block by: GETS to Wblk.
+abbrev pub is-request : Kind → Bool
+is-request k = leb (kind-number k) 6
 
 -- The requests that a processor may make, by number.
 abbrev pub request-numbered : ℕ → Option Kind

@@ -1,3 +1,5 @@
+pub mod Checks
+pub mod Forms
 pub mod Kinds
 pub mod Messages
 pub mod Nodes

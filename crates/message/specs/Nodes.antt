@@ -1,7 +1,7 @@
 -- Node numbers: 0 to 3 are processors, 4 and 5 the devices, and 16 + b is the home of block b.
-use mathlib.Core.Bool.{Bool, cond, _&&_}
+use mathlib.Core.Bool.{Bool, cond, _&&_, _||_}
 use Prim.Native.Nat.{ℕ, _+_, _-_}
-use lib.Dec.{ltb, leb}
+use lib.Dec.{eqb, ltb, leb}
 use Rattle.message.specs.declared.node.Node.{Node}
 use Rattle.message.specs.declared.node.Node.the-variants.{Nowhere, Processor, Device, Home}
 
@@ -16,3 +16,9 @@ node-numbered n =
     cond (ltb n 4) (Processor n)
     (cond (ltb n 6) (Device (n - 4))
     (cond (leb 16 n && ltb n 32) (Home (n - 16)) Nowhere))
+
+abbrev pub is-processor : ℕ → Bool
+is-processor n = ltb n 4
+
+abbrev pub is-device : ℕ → Bool
+is-device n = eqb n 4 || eqb n 5

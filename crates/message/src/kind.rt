@@ -1,7 +1,7 @@
 //! The twenty kinds of message.
 
 ghost use mathlib.Core.Path.{_≡_};
-ghost use Rattle.message.specs.Kinds.{kind-number, same-kind, request-numbered};
+ghost use Rattle.message.specs.Kinds.{kind-number, same-kind, is-request, request-numbered};
 
 #[derive(Clone, Copy)]
 pub enum Kind {
@@ -60,6 +60,13 @@ impl Kind {
         ensures { λ r. ⌜ r ≡ same-kind self other ⌝ }
     {
         self.number() == other.number()
+    }
+
+    /// Whether a home is asked for its block by it.
+    pub fn is_request(self) -> bool
+        ensures { λ r. ⌜ r ≡ is-request self ⌝ }
+    {
+        self.number() <= 6
     }
 
     /// The kind that a processor may ask for by its number.

@@ -1,5 +1,7 @@
 //! Messages between nodes, and what a node's reaction sends, records and answers.
 
+pub mod figures;
+pub mod form;
 pub mod kind;
 pub mod message;
 pub mod node;

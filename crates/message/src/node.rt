@@ -1,7 +1,7 @@
 //! Node numbers: 0 to 3 are processors, 4 and 5 the devices, and 16 + b is the home of block b.
 
 ghost use mathlib.Core.Path.{_≡_};
-ghost use Rattle.message.specs.Nodes.{node-numbered};
+ghost use Rattle.message.specs.Nodes.{node-numbered, is-processor, is-device};
 
 #[derive(Clone, Copy)]
 pub enum Node {
@@ -22,4 +22,16 @@ impl Node {
             _ => Node::Nowhere,
         }
     }
+}
+
+pub fn is_processor(node: u32) -> bool
+    ensures { λ r. ⌜ r ≡ is-processor node ⌝ }
+{
+    node < 4
+}
+
+pub fn is_device(node: u32) -> bool
+    ensures { λ r. ⌜ r ≡ is-device node ⌝ }
+{
+    node == 4 || node == 5
 }

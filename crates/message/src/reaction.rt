@@ -1,7 +1,7 @@
 //! What a node does when it is called or a message reaches it: a value that touches nothing.
 
 ghost use mathlib.Core.Path.{_≡_};
-ghost use Rattle.message.specs.Reactions.{silent, single};
+ghost use Rattle.message.specs.Reactions.{silent, single, sent-count};
 use crate::message::Message;
 use trail::entry::Entry;
 
@@ -24,6 +24,16 @@ impl Outbox {
         Outbox {
             at: [Some(message), None, None, None],
         }
+    }
+
+    /// How many messages it holds.
+    pub fn count(self) -> usize
+        ensures { λ r. ⌜ r ≡ sent-count self ⌝ }
+    {
+        usize::from(self.at[0].is_some())
+            + usize::from(self.at[1].is_some())
+            + usize::from(self.at[2].is_some())
+            + usize::from(self.at[3].is_some())
     }
 }
 
