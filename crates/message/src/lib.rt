@@ -5,5 +5,6 @@ pub mod form;
 pub mod kind;
 pub mod message;
 pub mod node;
+pub mod pair;
 pub mod reaction;
 pub mod requests;
