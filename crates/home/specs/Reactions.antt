@@ -113,7 +113,7 @@ ask-one k b s p = cond (has s p) (Some (plain k (home-node b) p b)) None
 abbrev pub asks : Kind → ℕ → Processors → Outbox
 asks k b s = record { at = ask-one k b s 0 ∷ (ask-one k b s 1 ∷ (ask-one k b s 2 ∷ (ask-one k b s 3 ∷ []))) }
 
--- The home with the request taken and these awaited; with nobody awaited it is about to finish.
+-- The home with the request taken and these awaited. With nobody awaited it finishes in the same step.
 abbrev pub asking-home : Home ℕ → Request → Processors → Home ℕ
 asking-home h r s = home (h .clock) (h .words) (asking (h .directory) r s)
 
@@ -123,7 +123,7 @@ began h r = asking-home h r nobody
 abbrev pub asked : Home ℕ → ℕ → Request → Processors → Reaction (Home ℕ)
 asked h b r s =
     cond (is-empty s)
-    (finished (asking-home h r s) b)
+    (finished (began h r) b)
     (record { next = asking-home h r s; sent = asks (asks-by (r .kind)) b s; entry = None; answer = None })
 
 abbrev pub planned : Home ℕ → ℕ → Request → Plan → Option (Reaction (Home ℕ))
