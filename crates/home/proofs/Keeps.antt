@@ -32,11 +32,11 @@ by-plan P h b r Nothing u a = tt
 by-plan P h b r Refuse u a = u
 by-plan P h b r (Ask s) u a = a s
 
-by-rule : (P : Reaction (Home ℕ) → Type 0) (h : Home ℕ) (b : ℕ) (m : Message ℕ)
+pub by-rule : (P : Reaction (Home ℕ) → Type 0) (h : Home ℕ) (b : ℕ) (m : Message ℕ)
     → (same-kind (m .kind) Ack ≡ true → found (acknowledged h b (m .sender) (m .exclusive) (m .words) (m .clock)) P)
     → found (taken h (m .sender)) P
     → P (refused h b (request-of m))
-    → ((s : Processors) → P (asked h b (request-of m) s))
+    → (same-kind (m .kind) Ack ≡ false → (s : Processors) → P (asked h b (request-of m) s))
     → found (received h b m) P
 by-rule P h b m k t u a =
     let r = request-of m in
@@ -44,7 +44,7 @@ by-rule P h b m k t u a =
     let p = plan (r .kind) (view (h .directory)) (h .directory .holders) (r .requester) in
     cond-both (ltb b 16) _ None Q
     (λ _. cond-both (same-kind (m .kind) Ack) _ _ Q k
-    (λ _. cond-both (same-kind (m .kind) Taken) _ _ Q (λ _. t) (λ _. by-plan P h b r p u a)))
+    (λ n. cond-both (same-kind (m .kind) Taken) _ _ Q (λ _. t) (λ _. by-plan P h b r p u (a n))))
     (λ _. tt)
 
 pub clock-never-goes-back : Clock-never-goes-back
@@ -53,7 +53,7 @@ clock-never-goes-back h b m =
     (λ _. grind (arith, tells))
     (grind (arith, tells))
     (omega arith)
-    (λ s. grind (arith, tells))
+    (λ _ s. grind (arith, tells))
 
 finish-keeps : (h : Home ℕ) (b : ℕ) → does-write (finished h b) ≡ false → finished h b .next .words ≡ h .words
 finish-keeps h b w = grind (arith, tells)
@@ -80,4 +80,4 @@ words-stay h b m =
     (λ e. hearing-keeps (brings-words m ≡ false) h b (m .sender) (m .exclusive) (m .words) (m .clock) (unmarked _ (m .exclusive) e))
     (grind (arith, tells))
     (λ _ _. refl)
-    (λ s. grind (arith, tells))
+    (λ _ s. grind (arith, tells))

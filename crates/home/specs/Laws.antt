@@ -100,6 +100,23 @@ pub record Kept (h : Home ℕ) (mark : Bool) (w : Words) (c : ℕ) (k : Home ℕ
 abbrev pub Hears-all : Type 0
 Hears-all = (h : Home ℕ) (p : ℕ) (mark : Bool) (w : Words) (c : ℕ) → Kept h mark w c (heard-home h p mark w c)
 
+-- So whenever a home replies, the reply is above its own clock, above this message's and above those heard before it.
+abbrev pub has-replied : Home ℕ → Bool
+has-replied h = elim (h .directory .phase) [ Free ↦ false | Gathering ↦ false | Replied ↦ true ]
+
+pub record Replied-above (h : Home ℕ) (m : Message ℕ) (x : Reaction (Home ℕ)) : Type 0 where
+  pub own : h .clock .global < x .next .clock .global
+  pub this : (same-kind (m .kind) Ack || isSome (operation-for (m .kind))) ≡ true → m .clock < x .next .clock .global
+  pub earlier : same-kind (m .kind) Ack ≡ true → h .directory .latest < x .next .clock .global
+  pub request : same-kind (m .kind) Ack ≡ true → isSome (operation-for (h .directory .request .kind)) ≡ true → h .directory .request .clock < x .next .clock .global
+  pub stamped : found (x .entry) (λ e. e .stamp .global ≡ x .next .clock .global)
+  pub replied : All (λ n. n .clock ≡ x .next .clock .global) (sent (x .sent))
+
+abbrev pub Replies-above-all : Type 0
+Replies-above-all =
+    (h : Home ℕ) (b : ℕ) (m : Message ℕ)
+    → found (received h b m) (λ x. has-replied h ≡ false → has-replied (x .next) ≡ true → Replied-above h m x)
+
 -- Nothing but an owner's words and a device's write changes the home's words.
 abbrev pub brings-words : Message ℕ → Bool
 brings-words m = same-kind (m .kind) Ack && m .exclusive

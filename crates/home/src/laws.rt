@@ -1,6 +1,6 @@
 //! What a home keeps, whatever it is told: each law is the contract of a function that does nothing.
 
-ghost use Rattle.home.specs.Laws.{Refuses-while-busy, Busy-until-taken, Taken-frees, Other-kinds-have-no-rule, Clock-never-goes-back, Finishes-above-all, Hears-all, Words-stay, Grants-to-sharers};
+ghost use Rattle.home.specs.Laws.{Refuses-while-busy, Busy-until-taken, Taken-frees, Other-kinds-have-no-rule, Clock-never-goes-back, Finishes-above-all, Hears-all, Replies-above-all, Words-stay, Grants-to-sharers};
 
 /// A home that is not free answers every request with NACK, and changes nothing.
 pub fn busy_homes_refuse()
@@ -23,10 +23,15 @@ pub fn clocks_never_go_back()
     ensures { λ _. ⌜ Clock-never-goes-back ⌝ }
 {}
 
-/// Operation and reply stand above all that was heard before them.
+/// What is heard is kept until the home finishes, and then it passes once, above all of it.
 pub fn homes_finish_above_all()
     ensures heard { λ _. ⌜ Hears-all ⌝ }
     ensures finished { λ _. ⌜ Finishes-above-all ⌝ }
+{}
+
+/// Operation and reply stand above all that the home was told before them.
+pub fn replies_are_above_all()
+    ensures { λ _. ⌜ Replies-above-all ⌝ }
 {}
 
 /// Only an owner's words and a device's write change a home's words.
