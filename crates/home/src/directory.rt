@@ -56,7 +56,7 @@ impl Directory {
     }
 
     /// The request is taken, and these holders are asked.
-    pub fn asking(self, request: Request, asked: Processors) -> Directory
+    pub(crate) fn asking(self, request: Request, asked: Processors) -> Directory
         ensures { λ r. ⌜ r ≡ asking self request asked ⌝ }
     {
         Directory {
@@ -70,7 +70,7 @@ impl Directory {
     }
 
     /// Whether the processor is asked and not yet heard.
-    pub fn awaits(self, processor: u32) -> bool
+    pub(crate) fn awaits(self, processor: u32) -> bool
         ensures { λ r. ⌜ r ≡ awaits self processor ⌝ }
     {
         match self.phase {
@@ -80,7 +80,7 @@ impl Directory {
     }
 
     /// The processor is heard: it holds no copy now, or after DOWN a shared one.
-    pub fn heard(self, processor: u32, clock: u32) -> Directory
+    pub(crate) fn heard(self, processor: u32, clock: u32) -> Directory
         ensures { λ r. ⌜ r ≡ heard self processor clock ⌝ }
     {
         let mut next = self;
@@ -94,7 +94,7 @@ impl Directory {
     }
 
     /// The reply is sent: the requester holds what it was given.
-    pub fn replied(self) -> Directory
+    pub(crate) fn replied(self) -> Directory
         ensures { λ r. ⌜ r ≡ replied self ⌝ }
     {
         let mut next = self;
@@ -111,7 +111,7 @@ impl Directory {
     }
 
     /// The reply is taken.
-    pub fn freed(self) -> Directory
+    pub(crate) fn freed(self) -> Directory
         ensures { λ r. ⌜ r ≡ freed self ⌝ }
     {
         let mut next = self;

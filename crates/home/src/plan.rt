@@ -37,7 +37,7 @@ fn holder(holders: Processors, requester: u32, then: Plan) -> Plan
 }
 
 impl Plan {
-    pub fn of(kind: Kind, view: View, holders: Processors, requester: u32) -> Plan
+    pub(crate) fn of(kind: Kind, view: View, holders: Processors, requester: u32) -> Plan
         ensures { λ r. ⌜ r ≡ plan kind view holders requester ⌝ }
     {
         let at_once = Plan::Ask(Processors::none());

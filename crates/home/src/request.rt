@@ -18,7 +18,7 @@ pub struct Request {
 }
 
 impl Request {
-    pub fn of(message: Message<u32>) -> Request
+    pub(crate) fn of(message: Message<u32>) -> Request
         ensures { λ r. ⌜ r ≡ request-of message ⌝ }
     {
         Request {
@@ -31,14 +31,14 @@ impl Request {
     }
 
     /// Whether the owner may keep a shared copy.
-    pub fn asks_down(self) -> bool
+    pub(crate) fn asks_down(self) -> bool
         ensures { λ r. ⌜ r ≡ asks-down (self .kind) ⌝ }
     {
         self.kind.is(Kind::Gets) || self.kind.is(Kind::Rblk)
     }
 
     /// By which message the holders are asked.
-    pub fn asks_by(self) -> Kind
+    pub(crate) fn asks_by(self) -> Kind
         ensures { λ r. ⌜ r ≡ asks-by (self .kind) ⌝ }
     {
         if self.asks_down() {
@@ -47,7 +47,7 @@ impl Request {
         Kind::Inv
     }
 
-    pub fn reply_kind(self) -> Kind
+    pub(crate) fn reply_kind(self) -> Kind
         ensures { λ r. ⌜ r ≡ reply-kind (self .kind) ⌝ }
     {
         match self.kind {
@@ -60,28 +60,28 @@ impl Request {
     }
 
     /// Whether the reply has the home's words.
-    pub fn carries_words(self) -> bool
+    pub(crate) fn carries_words(self) -> bool
         ensures { λ r. ⌜ r ≡ carries-words (self .kind) ⌝ }
     {
         matches!(self.kind, Kind::Gets | Kind::Getx | Kind::Rblk)
     }
 
     /// Whether the requester is the owner after the reply.
-    pub fn gives_ownership(self) -> bool
+    pub(crate) fn gives_ownership(self) -> bool
         ensures { λ r. ⌜ r ≡ gives-ownership (self .kind) ⌝ }
     {
         matches!(self.kind, Kind::Getx | Kind::Upg)
     }
 
     /// Whether the requester holds a copy after the reply.
-    pub fn gives_copy(self) -> bool
+    pub(crate) fn gives_copy(self) -> bool
         ensures { λ r. ⌜ r ≡ gives-copy (self .kind) ⌝ }
     {
         self.kind.is(Kind::Gets) || self.gives_ownership()
     }
 
     /// What the home itself does for a device.
-    pub fn operation(self) -> Option<Operation>
+    pub(crate) fn operation(self) -> Option<Operation>
         ensures { λ r. ⌜ r ≡ operation-for (self .kind) ⌝ }
     {
         match self.kind {

@@ -1,2 +1,5 @@
 pub mod Alike
 pub mod Counts
+pub mod Numbering
+pub mod Oldest
+pub mod Soundness

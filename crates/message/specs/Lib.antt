@@ -1,6 +1,7 @@
 pub mod Checks
 pub mod Forms
 pub mod Kinds
+pub mod Laws
 pub mod Messages
 pub mod Nodes
 pub mod Pairs

@@ -3,6 +3,7 @@
 pub mod figures;
 pub mod form;
 pub mod kind;
+pub mod laws;
 pub mod message;
 pub mod node;
 pub mod pair;
