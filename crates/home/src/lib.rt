@@ -8,3 +8,5 @@ pub mod plan;
 pub mod processors;
 mod react;
 pub mod request;
+#[cfg(test)]
+mod tests;

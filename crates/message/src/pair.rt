@@ -2,7 +2,10 @@
 
 ghost use mathlib.Core.Path.{_≡_};
 ghost use Prim.Native.Nat.{_≤_};
+ghost use lib.Dec.{ltb};
 ghost use lib.ListN.{length, take};
+ghost use Rattle.std.specs.Options.{isSome};
+ghost use Rattle.std.specs.shelf.Maps.{nth};
 ghost use Rattle.message.specs.Pairs.{is-pair, goes-alike, first-alike, oldest-of-pair};
 use crate::message::Message;
 use crate::node::is_device;
@@ -19,6 +22,16 @@ fn goes_alike(first: Message, second: Message) -> bool
     ensures { λ r. ⌜ r ≡ goes-alike first second ⌝ }
 {
     first.sender == second.sender && first.receiver == second.receiver
+}
+
+fn at(messages: &[Message], place: usize) -> Option<Message>
+    ensures answer { λ r. ⌜ r ≡ nth (now (messages .entry)) place ⌝ }
+    ensures test { λ r. ⌜ isSome r ≡ ltb place (length (now (messages .entry))) ⌝ }
+{
+    if place >= messages.len() {
+        return None;
+    }
+    Some(messages[place])
 }
 
 // The place of the first message below `end` that goes the way of `message`.
@@ -38,10 +51,7 @@ fn first_alike(messages: &[Message], end: usize, message: Message) -> Option<usi
 pub fn oldest_of_pair(messages: &[Message], place: usize) -> Option<usize>
     ensures { λ r. ⌜ r ≡ oldest-of-pair (now (messages .entry)) place ⌝ }
 {
-    if place >= messages.len() {
-        return None;
-    }
-    let message = messages[place];
+    let message = at(messages, place)?;
     if !goes_in_order(message.sender, message.receiver) {
         return None;
     }
