@@ -1,3 +1,4 @@
+pub mod Cases
 pub mod Directories
 pub mod Homes
 pub mod Laws

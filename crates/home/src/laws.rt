@@ -1,5 +1,6 @@
 //! What a home keeps, whatever it is told: each law is the contract of a function that does nothing.
 
+ghost use Rattle.home.specs.Cases.{Worked-exchange};
 ghost use Rattle.home.specs.Laws.{Refuses-while-busy, Busy-until-taken, Taken-frees, Other-kinds-have-no-rule, Clock-never-goes-back, Finishes-above-all, Hears-all, Replies-above-all, Words-stay, Grants-to-sharers};
 
 /// A home that is not free answers every request with NACK, and changes nothing.
@@ -42,4 +43,9 @@ pub fn words_stay()
 /// Ownership is granted only to one that shares.
 pub fn grants_go_to_sharers()
     ensures { λ _. ⌜ Grants-to-sharers ⌝ }
+{}
+
+/// An owner is asked for its words before another reads them.
+pub fn owners_give_their_words()
+    ensures { λ _. ⌜ Worked-exchange ⌝ }
 {}
