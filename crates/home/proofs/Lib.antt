@@ -1,2 +1,3 @@
 pub mod Above
+pub mod Back
 pub mod Keeps

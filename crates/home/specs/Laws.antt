@@ -51,6 +51,16 @@ Refuses-while-busy =
     (h : Home ℕ) (b : ℕ) (m : Message ℕ) → b < 16 → is-request (m .kind) ≡ true → is-free h ≡ false
     → received h b m ≡ Some (record { next = h; sent = single (given-back b m); entry = None; answer = None })
 
+-- Whatever home it is, a NACK that it sends is the request given back, and nothing has changed.
+pub record Given-back (h : Home ℕ) (b : ℕ) (m : Message ℕ) (x : Reaction (Home ℕ)) (n : Message ℕ) : Type 0 where
+  pub nack : n ≡ given-back b m
+  pub same : x .next ≡ h
+
+abbrev pub Nacks-give-back : Type 0
+Nacks-give-back =
+    (h : Home ℕ) (b : ℕ) (m : Message ℕ)
+    → found (received h b m) (λ x. All (λ n. same-kind (n .kind) Nack ≡ true → Given-back h b m x n) (sent (x .sent)))
+
 -- Once busy, it is free again only by TAKEN from the requester, and that does free it.
 pub record Freed-by (h : Home ℕ) (m : Message ℕ) : Type 0 where
   pub kind : same-kind (m .kind) Taken ≡ true

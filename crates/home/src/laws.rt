@@ -1,11 +1,16 @@
 //! What a home keeps, whatever it is told: each law is the contract of a function that does nothing.
 
 ghost use Rattle.home.specs.Cases.{Worked-exchange};
-ghost use Rattle.home.specs.Laws.{Refuses-while-busy, Busy-until-taken, Taken-frees, Other-kinds-have-no-rule, Clock-never-goes-back, Finishes-above-all, Hears-all, Replies-above-all, Words-stay, Grants-to-sharers};
+ghost use Rattle.home.specs.Laws.{Refuses-while-busy, Nacks-give-back, Busy-until-taken, Taken-frees, Other-kinds-have-no-rule, Clock-never-goes-back, Finishes-above-all, Hears-all, Replies-above-all, Words-stay, Grants-to-sharers};
 
 /// A home that is not free answers every request with NACK, and changes nothing.
 pub fn busy_homes_refuse()
     ensures { λ _. ⌜ Refuses-while-busy ⌝ }
+{}
+
+/// A NACK gives back the request with its words, clock and number, and changes nothing.
+pub fn nacks_give_back()
+    ensures { λ _. ⌜ Nacks-give-back ⌝ }
 {}
 
 /// A busy home is free again by TAKEN from its requester, and by nothing else.
