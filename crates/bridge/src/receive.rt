@@ -95,12 +95,7 @@ impl<D: Device> Bridge<D> {
             words: message.words,
             clock: u64::from(self.clock.global),
             sequence: message.sequence,
-            ..Message::plain(
-                kind,
-                4 + u32::from(number),
-                message.sender,
-                message.place,
-            )
+            ..Message::plain(kind, 4 + u32::from(number), message.sender, message.place)
         };
         Some(self.answering(self.clock.wide(), Deed::Resend(request)))
     }
