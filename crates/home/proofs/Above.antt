@@ -1,7 +1,7 @@
 -- A reply stands above all that its home was told.
-use mathlib.Core.Bool.{Bool, true, false, cond, _||_}
+use mathlib.Core.Bool.{Bool, true, false, _||_}
 use mathlib.Core.Path.{_≡_, refl}
-use Prim.Native.Nat.{ℕ, _<_, _≤_}
+use Prim.Native.Nat.{ℕ}
 use native.Mathlib.Omega.{arith}
 use borrow.Author.Needs.{needs}
 use Rattle.std.proofs.shelf.Tests.{cond-both, both-ways}
@@ -15,7 +15,7 @@ use Rattle.message.specs.declared.kind.Kind.the-variants.{Ack}
 use Rattle.message.specs.declared.message.Message.{Message}
 use Rattle.message.specs.declared.reaction.Reaction.{Reaction}
 use Rattle.home.specs.Directories.{awaits}
-use Rattle.home.specs.Laws.{has-replied, Passed-once, Finishes-above-all, Kept, Hears-all, Replied-above, Replies-above-all}
+use Rattle.home.specs.Laws.{has-replied, Finishes-above-all, Hears-all, Replied-above, Replies-above-all}
 use Rattle.home.specs.Reactions.{quiet, began, finished, asked, heard-home, after-hearing, acknowledged}
 use Rattle.home.specs.Requests.{request-of, operation-for}
 use Rattle.home.specs.Sets.{is-empty}

@@ -1,10 +1,9 @@
 -- The directory of a block: how it stands to a request, and how it changes.
-use mathlib.Core.Bool.{Bool, true, false, cond, _&&_}
+use mathlib.Core.Bool.{Bool, true, false, cond}
 use Prim.Native.Nat.{ℕ, max}
 use Rattle.home.specs.Requests.{asks-down, gives-copy, gives-ownership}
 use Rattle.home.specs.Sets.{nobody, has, with-member, is-empty}
 use Rattle.home.specs.declared.directory.Directory.{Directory}
-use Rattle.home.specs.declared.directory.Phase.{Phase}
 use Rattle.home.specs.declared.directory.Phase.the-variants.{Free, Gathering, Replied}
 use Rattle.home.specs.declared.request.Request.{Request}
 use Rattle.home.specs.declared.directory.View.{View}

@@ -1,5 +1,5 @@
 -- Homes: a new one, and one with numbers that may stand past their end.
-use mathlib.Core.Bool.{Bool, false, cond}
+use mathlib.Core.Bool.{false, cond}
 use Prim.Native.Nat.{ℕ}
 use Rattle.message.specs.declared.kind.Kind.the-variants.{Gets}
 use Rattle.ordering.specs.Clocks.{is-within}

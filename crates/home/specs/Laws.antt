@@ -5,7 +5,6 @@ use Prim.Native.Nat.{ℕ, _+_, _<_, _≤_}
 use Rattle.message.specs.Kinds.{same-kind, is-request}
 use Rattle.message.specs.Nodes.{home-node}
 use Rattle.message.specs.Reactions.{single, sent}
-use Rattle.message.specs.declared.kind.Kind.{Kind}
 use Rattle.message.specs.declared.kind.Kind.the-variants.{Upg, Ack, Nack, Taken}
 use Rattle.message.specs.declared.message.Message.{Message}
 use Rattle.message.specs.declared.reaction.Reaction.{Reaction}
@@ -13,14 +12,12 @@ use Rattle.ordering.specs.Operations.{is-write}
 use Rattle.ordering.specs.declared.operation.Words.{Words}
 use Rattle.std.specs.Options.{isSome}
 use Rattle.std.specs.Slices.{found}
-use Rattle.std.specs.declared.option.Option.{Option}
 use Rattle.std.specs.declared.option.Option.the-variants.{Some, None}
 use Rattle.std.specs.shelf.Lists.{All}
 use Rattle.home.specs.Plans.{plan}
 use Rattle.home.specs.Reactions.{finished, heard-home, received}
 use Rattle.home.specs.Requests.{operation-for}
 use Rattle.home.specs.Sets.{has}
-use Rattle.home.specs.declared.directory.Directory.{Directory}
 use Rattle.home.specs.declared.directory.Phase.the-variants.{Free, Gathering, Replied}
 use Rattle.home.specs.declared.directory.View.{View}
 use Rattle.home.specs.declared.directory.View.the-variants.{Shared}

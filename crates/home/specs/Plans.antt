@@ -1,5 +1,5 @@
 -- What a home does with a request, by how its directory stands.
-use mathlib.Core.Bool.{Bool, false, cond}
+use mathlib.Core.Bool.{false, cond}
 use Prim.Native.Nat.{ℕ}
 use Rattle.message.specs.Kinds.{same-kind}
 use Rattle.message.specs.declared.kind.Kind.{Kind}
@@ -34,7 +34,8 @@ column Shared i s x = s
 column Exclusive i s x = x
 column Busy i s x = Refuse
 
--- Rows are requests, columns an idle, a shared and an exclusive home. h are the holders, p is the requester.
+-- Rows are requests, columns an idle, a shared and an exclusive home. h are the holders, of an exclusive home its owner
+-- alone; p is the requester. GETS and Rblk ask by DOWN, the others by INV, and what follows is the request's reply.
 abbrev pub plan : Kind → View → Processors → ℕ → Plan
 plan k v h p =
     cond (same-kind k Gets) (column v (newcomer h p at-once) (newcomer h p at-once) (newcomer h p (Ask h)))

@@ -1,5 +1,5 @@
 -- What a home does when a message reaches it. h is the home of block b, r a request, s a set of processors.
-use mathlib.Core.Bool.{Bool, false, cond, _&&_, not}
+use mathlib.Core.Bool.{Bool, false, cond}
 use mathlib.Core.List.{[], _∷_}
 use Prim.Native.Nat.{ℕ, max}
 use lib.Dec.{eqb, ltb}

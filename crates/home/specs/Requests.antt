@@ -3,7 +3,7 @@ use mathlib.Core.Bool.{Bool, cond, _||_}
 use Prim.Native.Nat.{ℕ}
 use Rattle.message.specs.Kinds.{same-kind}
 use Rattle.message.specs.declared.kind.Kind.{Kind}
-use Rattle.message.specs.declared.kind.Kind.the-variants.{Gets, Getx, Upg, Wb, Rblk, Wblk, Inv, Down, SData, XData, Grant, Done, Words}
+use Rattle.message.specs.declared.kind.Kind.the-variants.{Gets, Getx, Upg, Rblk, Wblk, Inv, Down, SData, XData, Grant, Done, Words}
 use Rattle.message.specs.declared.message.Message.{Message}
 use Rattle.ordering.specs.declared.operation.Operation.{Operation}
 use Rattle.ordering.specs.declared.operation.Operation.the-variants.{LdBlk, StBlk}

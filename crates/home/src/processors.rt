@@ -1,7 +1,6 @@
 //! A set of processors, as presence bits.
 
 ghost use mathlib.Core.Path.{_≡_};
-ghost use mathlib.Core.Bool.{Bool};
 ghost use Rattle.home.specs.Sets.{has, with-member, is-empty, nobody};
 
 #[derive(Clone, Copy)]

@@ -2,7 +2,7 @@
 
 ghost use mathlib.Core.Path.{_≡_};
 ghost use Prim.Native.Nat.{_<_};
-ghost use Rattle.home.specs.Reactions.{clock-after, words-after, entry-for, reply, nack, finished, refused, ask-one, asks, asked, planned, requested, heard-home, acknowledged, clock-freed, taken, received};
+ghost use Rattle.home.specs.Reactions.{clock-after, words-after, entry-for, reply, nack, finished, refused, ask-one, asks, asked, requested, heard-home, acknowledged, clock-freed, taken, received};
 use crate::directory::Phase;
 use crate::machine::Home;
 use crate::plan::Plan;

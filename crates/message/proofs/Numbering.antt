@@ -1,11 +1,10 @@
 -- A number is one kind's alone: each kind is read back from its number.
-use mathlib.Core.Bool.{cond, true}
-use mathlib.Core.List.{List, [], _∷_}
+use mathlib.Core.List.{[], _∷_}
 use mathlib.Core.Path.{_≡_, refl, sym, ap, _∙_}
 use Prim.Native.Nat.{ℕ}
 use lib.ListN.{getD}
 use Rattle.std.proofs.shelf.Tests.{eqb-true}
-use Rattle.message.specs.Kinds.{kind-number, same-kind}
+use Rattle.message.specs.Kinds.{kind-number}
 use Rattle.message.specs.Laws.{Numbers-tell-kinds}
 use Rattle.message.specs.declared.kind.Kind.{Kind}
 use Rattle.message.specs.declared.kind.Kind.the-variants.{Gets, Getx, Upg, Wb, Rblk, Wblk, Rio, Wio, Int, Inv, Down, Ack, SData, XData, Grant, Done, Words, Value, Nack, Taken}

@@ -1,19 +1,18 @@
 -- What a well-formed message is: the table's forms, then what each part of a form says.
-use mathlib.Core.Bool.{Bool, true, false, cond, _&&_, _||_, not}
+use mathlib.Core.Bool.{Bool, true, false}
 use mathlib.Core.Logic.{⊎-elim}
 use mathlib.Core.Path.{_≡_, refl, subst}
 use Prim.Native.Nat.{ℕ, _≤_, _<_}
 use native.Mathlib.Omega.{arith}
-use lib.Dec.{eqb, ltb, leb}
+use lib.Dec.{eqb, ltb}
 use Rattle.ordering.specs.Clocks.{number-end}
 use Rattle.ordering.specs.declared.operation.Words.{Words}
-use Rattle.std.proofs.shelf.Tests.{and-parts, ltb-true, leb-true, eqb-true, both-ways, or-cases}
+use Rattle.std.proofs.shelf.Tests.{and-parts, ltb-true, eqb-true, both-ways, or-cases}
 use Rattle.std.proofs.shelf.Ways.{tells}
 use Rattle.std.specs.declared.option.Option.{Option}
 use Rattle.std.specs.declared.option.Option.the-variants.{Some, None}
 use Rattle.message.specs.Checks.{end-fits, words-fit, numbers-fit, fits, well-formed}
-use Rattle.message.specs.Forms.{row, returned, form-of}
-use Rattle.message.specs.Kinds.{kind-number, same-kind, is-request}
+use Rattle.message.specs.Forms.{form-of}
 use Rattle.message.specs.Laws.{goes-home, comes-from-home, Sound, Well-formed-are-sound}
 use Rattle.message.specs.Nodes.{home-node}
 use Rattle.message.specs.declared.figures.Figures.{Figures}
@@ -25,7 +24,7 @@ use Rattle.message.specs.declared.form.Form.{Form}
 use Rattle.message.specs.declared.form.Numbers.{Numbers}
 use Rattle.message.specs.declared.form.Numbers.the-variants as numbers
 use Rattle.message.specs.declared.kind.Kind.{Kind}
-use Rattle.message.specs.declared.kind.Kind.the-variants.{Ack, Nack}
+use Rattle.message.specs.declared.kind.Kind.the-variants.{Ack}
 use Rattle.message.specs.declared.message.Message.{Message}
 
 record Right (k : Kind) (o : Form) : Type 0 where

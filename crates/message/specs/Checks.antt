@@ -1,6 +1,6 @@
 -- Well-formed messages: ends on the board and of the kind, each field filled as the kind's form says or else 0.
-use mathlib.Core.Bool.{Bool, true, false, cond, _&&_, _||_, not}
-use Prim.Native.Nat.{ℕ, _+_}
+use mathlib.Core.Bool.{Bool, false, cond, _&&_, _||_, not}
+use Prim.Native.Nat.{ℕ}
 use lib.Dec.{eqb, ltb, leb}
 use lib.ListN.{getD}
 use Rattle.ordering.specs.Clocks.{number-end}

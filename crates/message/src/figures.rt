@@ -3,7 +3,7 @@
 ghost use mathlib.Core.Path.{_≡_};
 ghost use mathlib.Core.Bool.{true};
 ghost use Prim.Native.Nat.{_≤_};
-ghost use Rattle.message.specs.Checks.{has-processor, word-count, end-fits, rest-is-zero, all-are-zero, words-fit, numbers-fit, fits, well-formed, checked};
+ghost use Rattle.message.specs.Checks.{has-processor, word-count, end-fits, rest-is-zero, all-are-zero, words-fit, numbers-fit, fits, checked};
 use crate::form::End;
 use crate::form::Fill;
 use crate::form::Form;
