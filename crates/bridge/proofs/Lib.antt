@@ -1,1 +1,5 @@
+pub mod Asking
+pub mod Clocks
 pub mod Outs
+pub mod Tables
+pub mod Writing
