@@ -59,17 +59,8 @@ numbering b c a = record { clock = c; sequence = next-number b; deed = a }
 abbrev pub own-access : {S : Type 0} → ℕ → Bridge S ℕ → ℕ → WordAccess
 own-access d b w = record { party = device-node d; sequence = b .sequence; place = w }
 
-abbrev pub own-load : {S : Type 0} → Meaning S → ℕ → Bridge S ℕ → ℕ → Decision
-own-load m d b w =
-    cond (ltb w (word-count m b))
-    (Ok (numbering b (counted (b .clock)) (Load (own-access d b w))))
-    (Err (BadWish d))
-
-abbrev pub own-store : {S : Type 0} → Meaning S → ℕ → Bridge S ℕ → ℕ → ℕ → Decision
-own-store m d b w v =
-    cond (ltb w (word-count m b))
-    (Ok (numbering b (counted (b .clock)) (Store (own-access d b w) v)))
-    (Err (BadWish d))
+abbrev pub own : {S : Type 0} → Meaning S → ℕ → Bridge S ℕ → ℕ → Deed → Decision
+own m d b w a = cond (ltb w (word-count m b)) (Ok (numbering b (counted (b .clock)) a)) (Err (BadWish d))
 
 -- INT and block operations are done elsewhere: a message goes out with the clock as it stands and the operation's number.
 abbrev pub wish-message : {S : Type 0} → Kind → ℕ → Bridge S ℕ → ℕ → ℕ → Words → Message ℕ
@@ -108,8 +99,8 @@ request d b r k ws =
 abbrev pub act-on : {S : Type 0} → Operation → Meaning S → ℕ → ℕ → Bridge S ℕ → Wish → Decision
 act-on Ld m d ps b h = Err (BadWish d)
 act-on St m d ps b h = Err (BadWish d)
-act-on LdIo m d ps b h = own-load m d b (h .place)
-act-on StIo m d ps b h = own-store m d b (h .place) (first-word (h .words))
+act-on LdIo m d ps b h = own m d b (h .place) (Load (own-access d b (h .place)))
+act-on StIo m d ps b h = own m d b (h .place) (Store (own-access d b (h .place)) (first-word (h .words)))
 act-on Int m d ps b h = interrupt d b ps (h .processor) (first-word (h .words))
 act-on LdBlk m d ps b h = request d b kind.Rblk (h .place) no-words
 act-on StBlk m d ps b h = request d b kind.Wblk (h .place) (h .words)

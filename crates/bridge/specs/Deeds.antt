@@ -119,3 +119,9 @@ performed m d b p = deed-done (p .deed) m d (at-numbers (p .clock) (p .sequence)
 -- What leaves the node.
 abbrev pub outcome-of : {S : Type 0} → Reaction (Bridge S ℕ) → Outcome
 outcome-of r = record { sent = r .sent; entry = r .entry }
+
+abbrev pub sends-only : Message ℕ → Outcome
+sends-only x = record { sent = single x; entry = None }
+
+abbrev pub does-only : Entry → Outcome
+does-only e = record { sent = silent; entry = Some e }

@@ -28,29 +28,17 @@ answering b c a = record { clock = c; sequence = b .sequence; deed = a }
 abbrev pub asked-access : Message ℕ → WordAccess
 asked-access x = record { party = x .sender; sequence = x .sequence; place = x .place }
 
-abbrev pub asked-load : {S : Type 0} → Meaning S → Bridge S ℕ → Message ℕ → Option (Plan ℕ)
-asked-load m b x =
+abbrev pub asked : {S : Type 0} → Meaning S → Bridge S ℕ → Message ℕ → Deed → Option (Plan ℕ)
+asked m b x a =
     cond (ltb (x .place) (word-count m b))
-    (Some (answering b (counted (passed (b .clock) (x .clock))) (Read (asked-access x))))
+    (Some (answering b (counted (passed (b .clock) (x .clock))) a))
     None
 
-abbrev pub asked-store : {S : Type 0} → Meaning S → Bridge S ℕ → Message ℕ → Option (Plan ℕ)
-asked-store m b x =
-    cond (ltb (x .place) (word-count m b))
-    (Some (answering b (counted (passed (b .clock) (x .clock))) (Write (asked-access x) (first-word (x .words)))))
-    None
-
--- WORDS answers Rblk, DONE answers Wblk; the clock is passed.
-abbrev pub landing : {S : Type 0} → Bridge S ℕ → Message ℕ → Option (Plan ℕ)
-landing b x =
-    cond (is-out (b .requests) (x .place) kind.Rblk)
-    (Some (answering b (passed (b .clock) (x .clock)) (Land (x .sender) (x .place) (x .words))))
-    None
-
-abbrev pub finishing : {S : Type 0} → Bridge S ℕ → Message ℕ → Option (Plan ℕ)
-finishing b x =
-    cond (is-out (b .requests) (x .place) kind.Wblk)
-    (Some (answering b (passed (b .clock) (x .clock)) (Finish (x .sender) (x .place))))
+-- WORDS and DONE: the request that is answered is out for the block, and the clock is passed.
+abbrev pub replied : {S : Type 0} → Bridge S ℕ → Message ℕ → Kind → Deed → Option (Plan ℕ)
+replied b x k a =
+    cond (is-out (b .requests) (x .place) k)
+    (Some (answering b (passed (b .clock) (x .clock)) a))
     None
 
 -- NACK: the refused request goes to the same home again, with the clock as it stands now and the words and number
@@ -75,7 +63,7 @@ refused d b x =
       | Some k ↦ cond (is-out (b .requests) (x .place) k) (Some (answering b (b .clock) (Resend (again k d b x)))) None
     ]
 
--- The rules by kind. Every other kind goes to processors or homes.
+-- The rules by kind. DONE answers Wblk, WORDS answers Rblk. Every other kind goes to processors or homes.
 abbrev pub receive-kind : {S : Type 0} → Kind → Meaning S → ℕ → Bridge S ℕ → Message ℕ → Option (Plan ℕ)
 receive-kind kind.Gets m d b x = None
 receive-kind kind.Getx m d b x = None
@@ -83,8 +71,8 @@ receive-kind kind.Upg m d b x = None
 receive-kind kind.Wb m d b x = None
 receive-kind kind.Rblk m d b x = None
 receive-kind kind.Wblk m d b x = None
-receive-kind kind.Rio m d b x = asked-load m b x
-receive-kind kind.Wio m d b x = asked-store m b x
+receive-kind kind.Rio m d b x = asked m b x (Read (asked-access x))
+receive-kind kind.Wio m d b x = asked m b x (Write (asked-access x) (first-word (x .words)))
 receive-kind kind.Int m d b x = None
 receive-kind kind.Inv m d b x = None
 receive-kind kind.Down m d b x = None
@@ -92,8 +80,8 @@ receive-kind kind.Ack m d b x = None
 receive-kind kind.SData m d b x = None
 receive-kind kind.XData m d b x = None
 receive-kind kind.Grant m d b x = None
-receive-kind kind.Done m d b x = finishing b x
-receive-kind kind.Words m d b x = landing b x
+receive-kind kind.Done m d b x = replied b x kind.Wblk (Finish (x .sender) (x .place))
+receive-kind kind.Words m d b x = replied b x kind.Rblk (Land (x .sender) (x .place) (x .words))
 receive-kind kind.Value m d b x = None
 receive-kind kind.Nack m d b x = refused d b x
 receive-kind kind.Taken m d b x = None

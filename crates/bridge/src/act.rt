@@ -2,7 +2,7 @@
 //! number, so that the node's can always be had from it.
 
 ghost use mathlib.Core.Path.{_≡_};
-ghost use Rattle.bridge.specs.Acts.{any-out, next-number, own-access, own-load, own-store, interrupt, request, act-plan};
+ghost use Rattle.bridge.specs.Acts.{any-out, next-number, own-access, own, interrupt, request, act-plan};
 ghost use Rattle.bridge.specs.States.{view};
 use crate::fault::DeviceFault;
 use crate::plan::Deed;
@@ -45,8 +45,9 @@ impl<D: Device> Bridge<D> {
         }
     }
 
-    fn own_load(&self, number: u8, place: u32) -> Result<Plan<u64>, DeviceFault>
-        ensures { λ r. ⌜ r ≡ own-load (D·Device .meaning) number (view (D·Device .state) (now (self .entry))) place ⌝ }
+    // An LDio or STio of its own, at a word that it has.
+    fn own(&self, number: u8, place: u32, deed: Deed) -> Result<Plan<u64>, DeviceFault>
+        ensures { λ r. ⌜ r ≡ own (D·Device .meaning) number (view (D·Device .state) (now (self .entry))) place deed ⌝ }
     {
         if place >= self.device.count() {
             return Err(DeviceFault::BadWish(u32::from(number)));
@@ -54,20 +55,7 @@ impl<D: Device> Bridge<D> {
         Ok(Plan {
             clock: self.clock.counted(),
             sequence: self.next_number(),
-            deed: Deed::Load(self.own_access(number, place)),
-        })
-    }
-
-    fn own_store(&self, number: u8, place: u32, word: u32) -> Result<Plan<u64>, DeviceFault>
-        ensures { λ r. ⌜ r ≡ own-store (D·Device .meaning) number (view (D·Device .state) (now (self .entry))) place word ⌝ }
-    {
-        if place >= self.device.count() {
-            return Err(DeviceFault::BadWish(u32::from(number)));
-        }
-        Ok(Plan {
-            clock: self.clock.counted(),
-            sequence: self.next_number(),
-            deed: Deed::Store(self.own_access(number, place), word),
+            deed,
         })
     }
 
@@ -136,10 +124,11 @@ impl<D: Device> Bridge<D> {
             return Err(DeviceFault::NoWish(u32::from(number)));
         };
         let word = wish.words.at[0];
+        let access = self.own_access(number, wish.place);
         match wish.operation {
             Operation::Ld | Operation::St => Err(DeviceFault::BadWish(u32::from(number))),
-            Operation::LdIo => self.own_load(number, wish.place),
-            Operation::StIo => self.own_store(number, wish.place, word),
+            Operation::LdIo => self.own(number, wish.place, Deed::Load(access)),
+            Operation::StIo => self.own(number, wish.place, Deed::Store(access, word)),
             Operation::Int => self.interrupt(number, processors, wish.processor, word),
             Operation::LdBlk => self.request(number, Kind::Rblk, wish.place, Words::ZERO),
             Operation::StBlk => self.request(number, Kind::Wblk, wish.place, wish.words),

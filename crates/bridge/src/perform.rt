@@ -3,7 +3,7 @@
 ghost use mathlib.Core.Path.{_≡_};
 ghost use lib.ListN.{getD};
 ghost use Rattle.device.specs.Meaning.{read-exit, write-exit};
-ghost use Rattle.bridge.specs.Deeds.{access-entry, value-of, outcome-of, loaded, stored, accepted, requested, answered, written, ended, landed, performed};
+ghost use Rattle.bridge.specs.Deeds.{access-entry, sends-only, does-only, outcome-of, loaded, stored, accepted, answered, written, ended, performed};
 ghost use Rattle.bridge.specs.States.{view};
 use crate::plan::Deed;
 use crate::plan::Plan;
@@ -24,6 +24,26 @@ use trail::entry::Entry;
 pub struct Outcome {
     pub sent: Outbox,
     pub entry: Option<Entry>,
+}
+
+impl Outcome {
+    fn sending(message: Message) -> Outcome
+        ensures { λ r. ⌜ r ≡ sends-only message ⌝ }
+    {
+        Outcome {
+            sent: Outbox::single(message),
+            entry: None,
+        }
+    }
+
+    fn doing(entry: Entry) -> Outcome
+        ensures { λ r. ⌜ r ≡ does-only entry ⌝ }
+    {
+        Outcome {
+            sent: Outbox::silent(),
+            entry: Some(entry),
+        }
+    }
 }
 
 fn access_entry(
@@ -66,24 +86,18 @@ impl<D: Device> Bridge<D> {
         let word = read_word(&mut self.device, access.place);
         self.device.accepted(word);
         let entry = access_entry(number, self.clock, access, Operation::LdIo, word);
-        Outcome {
-            sent: Outbox::silent(),
-            entry: Some(entry),
-        }
+        Outcome::doing(entry)
     }
 
     // Its own STio.
-    fn store(&mut self, number: u8, access: WordAccess, word: u32) -> Outcome
-        ensures exit { λ _. ⌜ view (D·Device .state) (now (self .exit)) ≡ stored (D·Device .meaning) number (view (D·Device .state) (now (self .entry))) access word .next ⌝ }
-        ensures outcome { λ r. ⌜ r ≡ outcome-of (stored (D·Device .meaning) number (view (D·Device .state) (now (self .entry))) access word) ⌝ }
+    fn store(&mut self, number: u8, access: WordAccess, value: u32) -> Outcome
+        ensures exit { λ _. ⌜ view (D·Device .state) (now (self .exit)) ≡ stored (D·Device .meaning) number (view (D·Device .state) (now (self .entry))) access value .next ⌝ }
+        ensures outcome { λ r. ⌜ r ≡ outcome-of (stored (D·Device .meaning) number (view (D·Device .state) (now (self .entry))) access value) ⌝ }
     {
-        let _ = self.device.write(access.place, word);
+        let _ = self.device.write(access.place, value);
         self.device.accepted(0);
-        let entry = access_entry(number, self.clock, access, Operation::StIo, word);
-        Outcome {
-            sent: Outbox::silent(),
-            entry: Some(entry),
-        }
+        let entry = access_entry(number, self.clock, access, Operation::StIo, value);
+        Outcome::doing(entry)
     }
 
     // Its wish went out as a message.
@@ -92,10 +106,7 @@ impl<D: Device> Bridge<D> {
         ensures outcome { λ r. ⌜ r ≡ outcome-of (accepted (D·Device .meaning) (view (D·Device .state) (now (self .entry))) message) ⌝ }
     {
         self.device.accepted(0);
-        Outcome {
-            sent: Outbox::single(message),
-            entry: None,
-        }
+        Outcome::sending(message)
     }
 
     // A processor's LDio: VALUE carries the word.
@@ -128,10 +139,7 @@ impl<D: Device> Bridge<D> {
     {
         let _ = self.device.write(access.place, word);
         let entry = access_entry(number, self.clock, access, Operation::StIo, word);
-        Outcome {
-            sent: Outbox::silent(),
-            entry: Some(entry),
-        }
+        Outcome::doing(entry)
     }
 
     // The request for a block is answered.
@@ -141,10 +149,7 @@ impl<D: Device> Bridge<D> {
     {
         self.requests = self.requests.with(block, None);
         let taken = Message::plain(Kind::Taken, 4 + u32::from(number), home, block);
-        Outcome {
-            sent: Outbox::single(taken),
-            entry: None,
-        }
+        Outcome::sending(taken)
     }
 
     /// Does what was planned.
@@ -169,10 +174,7 @@ impl<D: Device> Bridge<D> {
                 self.end(number, home, block)
             }
             Deed::Finish(home, block) => self.end(number, home, block),
-            Deed::Resend(message) => Outcome {
-                sent: Outbox::single(message),
-                entry: None,
-            },
+            Deed::Resend(message) => Outcome::sending(message),
         }
     }
 }

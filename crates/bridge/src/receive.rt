@@ -2,7 +2,7 @@
 //! that a kind leaves empty, and who may send it, are not looked at here.
 
 ghost use mathlib.Core.Path.{_≡_};
-ghost use Rattle.bridge.specs.Receipts.{answering, asked-access, asked-load, asked-store, landing, finishing, refused, receive-plan};
+ghost use Rattle.bridge.specs.Receipts.{answering, asked-access, asked, replied, refused, receive-plan};
 ghost use Rattle.bridge.specs.States.{view};
 use crate::plan::Deed;
 use crate::plan::Plan;
@@ -35,52 +35,26 @@ impl<D: Device> Bridge<D> {
         }
     }
 
-    // Rio.
-    fn asked_load(&self, message: Message<u32>) -> Option<Plan<u64>>
-        ensures { λ r. ⌜ r ≡ asked-load (D·Device .meaning) (view (D·Device .state) (now (self .entry))) message ⌝ }
+    // Rio or Wio: an operation of the sender's, at a word that the device has.
+    fn asked(&self, message: Message<u32>, deed: Deed) -> Option<Plan<u64>>
+        ensures { λ r. ⌜ r ≡ asked (D·Device .meaning) (view (D·Device .state) (now (self .entry))) message deed ⌝ }
     {
         if message.place >= self.device.count() {
             return None;
         }
         let clock = self.clock.passed_and_counted(message.clock);
-        Some(self.answering(clock, Deed::Read(asked_access(message))))
+        Some(self.answering(clock, deed))
     }
 
-    // Wio.
-    fn asked_store(&self, message: Message<u32>) -> Option<Plan<u64>>
-        ensures { λ r. ⌜ r ≡ asked-store (D·Device .meaning) (view (D·Device .state) (now (self .entry))) message ⌝ }
+    // WORDS or DONE, where the request that it answers is out.
+    fn replied(&self, message: Message<u32>, request: Kind, deed: Deed) -> Option<Plan<u64>>
+        ensures { λ r. ⌜ r ≡ replied (view (D·Device .state) (now (self .entry))) message request deed ⌝ }
     {
-        if message.place >= self.device.count() {
-            return None;
-        }
-        let clock = self.clock.passed_and_counted(message.clock);
-        let word = message.words.at[0];
-        Some(self.answering(clock, Deed::Write(asked_access(message), word)))
-    }
-
-    // WORDS.
-    fn landing(&self, message: Message<u32>) -> Option<Plan<u64>>
-        ensures { λ r. ⌜ r ≡ landing (view (D·Device .state) (now (self .entry))) message ⌝ }
-    {
-        if !self.requests.is_out(message.place, Kind::Rblk) {
+        if !self.requests.is_out(message.place, request) {
             return None;
         }
         let clock = self.clock.passed(message.clock);
-        Some(self.answering(
-            clock,
-            Deed::Land(message.sender, message.place, message.words),
-        ))
-    }
-
-    // DONE.
-    fn finishing(&self, message: Message<u32>) -> Option<Plan<u64>>
-        ensures { λ r. ⌜ r ≡ finishing (view (D·Device .state) (now (self .entry))) message ⌝ }
-    {
-        if !self.requests.is_out(message.place, Kind::Wblk) {
-            return None;
-        }
-        let clock = self.clock.passed(message.clock);
-        Some(self.answering(clock, Deed::Finish(message.sender, message.place)))
+        Some(self.answering(clock, deed))
     }
 
     // NACK: the same request, with the clock as it stands now.
@@ -104,11 +78,17 @@ impl<D: Device> Bridge<D> {
     pub fn receive(&self, number: u8, message: Message<u32>) -> Option<Plan<u64>>
         ensures { λ r. ⌜ r ≡ receive-plan (D·Device .meaning) number (view (D·Device .state) (now (self .entry))) message ⌝ }
     {
+        let access = asked_access(message);
+        let word = message.words.at[0];
+        let home = message.sender;
+        let block = message.place;
         match message.kind {
-            Kind::Rio => self.asked_load(message),
-            Kind::Wio => self.asked_store(message),
-            Kind::Done => self.finishing(message),
-            Kind::Words => self.landing(message),
+            Kind::Rio => self.asked(message, Deed::Read(access)),
+            Kind::Wio => self.asked(message, Deed::Write(access, word)),
+            Kind::Done => self.replied(message, Kind::Wblk, Deed::Finish(home, block)),
+            Kind::Words => {
+                self.replied(message, Kind::Rblk, Deed::Land(home, block, message.words))
+            }
             Kind::Nack => self.refused(number, message),
             _ => None,
         }
