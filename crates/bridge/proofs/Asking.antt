@@ -24,7 +24,7 @@ use Rattle.bridge.proofs.Outs.{none-out}
 use Rattle.bridge.proofs.Tables.{put-read}
 use Rattle.bridge.specs.Acts.{some-out}
 use Rattle.bridge.specs.Inputs.{Act, Receive, reaction}
-use Rattle.bridge.specs.Laws.{asks-for-block, Refused-requests-go-out-again, Requests-stay-for-blocks, Requests-are-for-blocks, Interrupts-wait}
+use Rattle.bridge.specs.Laws.{asks-for-block, Refused-requests-go-out-again, Requests-stay-for-blocks, Requests-are-for-blocks, Interrupts-wait, Wishes-are-judged}
 use Rattle.bridge.specs.Reactions.{receive}
 use Rattle.bridge.specs.Receipts.{again}
 use Rattle.bridge.specs.declared.state.Bridge.{Bridge}
@@ -104,3 +104,13 @@ module _ {S : Type 0} (m : Meaning S) where
       let free = λ (f : some-out (b .requests .at) ≡ false). none-out (b .requests .at) f j in
       grind (arith, tells, free)
   interrupts-wait b d (Receive x) r h o y e k j = grind (arith, tells, o (x .place))
+
+  pub wishes-are-judged : Wishes-are-judged m
+  wishes-are-judged = record {
+    none = λ b d ps e. grind (arith, tells);
+    foreign = λ b d ps h e k. grind (arith, tells);
+    own = λ b d ps h f e k l. grind (arith, tells);
+    waits = λ b d ps e.
+        let free = λ (f : some-out (b .requests .at) ≡ false). none-out (b .requests .at) f (wished-place (m .wish (b .device))) in
+        grind (arith, tells, free);
+  }

@@ -17,6 +17,7 @@ use Rattle.ordering.specs.declared.operation.Operation.the-variants as operatio
 use Rattle.trail.specs.declared.entry.Entry.{Entry}
 use Rattle.device.specs.Events.{Event, reads, writes, accepts, lands, after}
 use Rattle.device.specs.Meaning.{Meaning}
+use Rattle.device.specs.declared.meaning.Wish.{Wish}
 use Rattle.message.specs.Kinds.{same-kind}
 use Rattle.message.specs.Messages.{plain}
 use Rattle.message.specs.Nodes.{device-node}
@@ -26,7 +27,7 @@ use Rattle.message.specs.declared.kind.Kind.{Kind}
 use Rattle.message.specs.declared.kind.Kind.the-variants as kind
 use Rattle.message.specs.declared.message.Message.{Message}
 use Rattle.message.specs.declared.reaction.Reaction.{Reaction}
-use Rattle.bridge.specs.Acts.{first-word}
+use Rattle.bridge.specs.Acts.{first-word, any-out}
 use Rattle.bridge.specs.Deeds.{performed}
 use Rattle.bridge.specs.Faults.{fault-place}
 use Rattle.bridge.specs.Inputs.{Input, Each-reaction, message-of}
@@ -34,6 +35,7 @@ use Rattle.bridge.specs.Plans.{sends, enters}
 use Rattle.bridge.specs.Reactions.{act, receive}
 use Rattle.bridge.specs.States.{made}
 use Rattle.bridge.specs.declared.fault.DeviceFault.{DeviceFault}
+use Rattle.bridge.specs.declared.fault.DeviceFault.the-variants.{NoWish, BadWish, MustWait}
 use Rattle.bridge.specs.declared.plan.Deed.{Deed}
 use Rattle.bridge.specs.declared.plan.Deed.the-variants.{Load, Store, Interrupt, Request, Read, Write, Land, Finish, Resend}
 use Rattle.bridge.specs.declared.plan.Plan.{Plan}
@@ -144,6 +146,14 @@ pub record Bridges-keep-to-their-part {S : Type 0} (m : Meaning S) : Type 0 wher
   pub single : Each-reaction m (λ b d i r. sent-count (r .sent) ≤ 1)
   pub tells : Each-reaction m (λ b d i r. r .answer ≡ None)
   pub named : (b : Bridge S ℕ) (d ps : ℕ) (f : DeviceFault) → act m d ps b ≡ Err f → fault-place f ≡ d
+
+-- A device without a wish gets nothing done. A wish for an LD or ST is no device's. An own LDio or STio is refused
+-- only for a word that the device does not have, and a wish has to wait only while a block request is out.
+pub record Wishes-are-judged {S : Type 0} (m : Meaning S) : Type 0 where
+  pub none : (b : Bridge S ℕ) (d ps : ℕ) → m .wish (b .device) ≡ None → act m d ps b ≡ Err (NoWish d)
+  pub foreign : (b : Bridge S ℕ) (d ps : ℕ) (h : Wish) → m .wish (b .device) ≡ Some h → (is operation.Ld (h .operation) || is operation.St (h .operation)) ≡ true → act m d ps b ≡ Err (BadWish d)
+  pub own : (b : Bridge S ℕ) (d ps : ℕ) (h : Wish) (f : DeviceFault) → m .wish (b .device) ≡ Some h → (is operation.LdIo (h .operation) || is operation.StIo (h .operation)) ≡ true → act m d ps b ≡ Err f → (f ≡ BadWish d) × (length (m .words (b .device)) ≤ h .place)
+  pub waits : (b : Bridge S ℕ) (d ps : ℕ) → act m d ps b ≡ Err (MustWait d) → any-out (b .requests) ≡ true
 
 -- What is done to the device at each deed, call after call, and that is all that is done to it.
 abbrev pub calls-of : {S : Type 0} → Meaning S → S → Deed → List Event

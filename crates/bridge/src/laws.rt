@@ -1,6 +1,6 @@
 //! What holds of every reaction of a bridge, whatever its state, its device and what came.
 
-ghost use Rattle.bridge.specs.Laws.{Clocks-go-on, Entries-are-stamped, Only-stores-write, Values-are-entered, Refused-requests-go-out-again, Requests-are-for-blocks, Interrupts-wait, Bridges-keep-to-their-part, Deeds-are-foretold};
+ghost use Rattle.bridge.specs.Laws.{Clocks-go-on, Entries-are-stamped, Only-stores-write, Values-are-entered, Refused-requests-go-out-again, Requests-are-for-blocks, Interrupts-wait, Wishes-are-judged, Bridges-keep-to-their-part, Deeds-are-foretold};
 use device::meaning::Device;
 
 /// No reaction takes the clock back, and one that does an operation takes it on; after a message whose
@@ -37,6 +37,11 @@ pub fn requests_are_for_blocks<D: Device>()
 /// No INT is sent while a block request is out.
 pub fn interrupts_wait<D: Device>()
     ensures { λ _. ⌜ Interrupts-wait (D·Device .meaning) ⌝ }
+{}
+
+/// An own LDio or STio is refused only for a word that is not there, and a wish waits only for block requests.
+pub fn wishes_are_judged<D: Device>()
+    ensures { λ _. ⌜ Wishes-are-judged (D·Device .meaning) ⌝ }
 {}
 
 /// A kind that is not a device's has no rule, and no reaction sends more than one message.

@@ -8,3 +8,5 @@ pub mod perform;
 pub mod plan;
 pub mod receive;
 pub mod state;
+#[cfg(test)]
+mod tests;
