@@ -1,0 +1,3 @@
+pub mod Arising
+pub mod Clocks
+pub mod Stepping

@@ -10,6 +10,7 @@ use Rattle.device.specs.Windows.{window, window-meaning}
 use Rattle.device.specs.declared.plate_setter.PlateSetter.{PlateSetter}
 use Rattle.device.specs.declared.scanner.Scanner.{Scanner}
 use Rattle.device.specs.declared.window.Window.{Window}
+use Rattle.message.specs.Messages.{no-message}
 use Rattle.message.specs.declared.kind.Kind.the-variants as kind
 use Rattle.ordering.specs.Clocks.{passed}
 use Rattle.ordering.specs.Stamps.{below}
@@ -25,7 +26,7 @@ use Rattle.trail.specs.declared.entry.Entry.{Entry}
 use Rattle.coherence.specs.Faults.{fault-number, fault-place}
 use Rattle.coherence.specs.Histories.{run}
 use Rattle.coherence.specs.Makings.{Making}
-use Rattle.coherence.specs.Steps.{Answer, step, no-message}
+use Rattle.coherence.specs.Steps.{Answer, step}
 use Rattle.coherence.specs.Worlds.{World, processor-at, home-at}
 use Rattle.coherence.specs.declared.call.Call.{Call}
 use Rattle.coherence.specs.declared.call.Call.the-variants.{Load, Store, Request, LdIo, StIo, Collect, GiveUp, Act, Deliver, Poll}

@@ -5,6 +5,7 @@ use Prim.Native.Nat.{ℕ, _+_, _≤_}
 use lib.Dec.{ltb, leb}
 use lib.ListN.{length, getD}
 use Rattle.bridge.specs.Reactions as bridge
+use Rattle.bridge.specs.declared.fault.DeviceFault.{DeviceFault}
 use Rattle.bridge.specs.declared.state.Bridge.{Bridge}
 use Rattle.device.specs.Meaning.{Meaning}
 use Rattle.home.specs.Reactions as home
@@ -12,12 +13,12 @@ use Rattle.home.specs.declared.machine.Home.{Home}
 use Rattle.list.specs.Contents.{removed}
 use Rattle.message.specs.Checks.{well-formed}
 use Rattle.message.specs.Kinds.{request-numbered}
-use Rattle.message.specs.Messages.{plain}
+use Rattle.message.specs.Messages.{no-message}
 use Rattle.message.specs.Nodes.{node-numbered, device-node, home-node}
 use Rattle.message.specs.Pairs.{oldest-of-pair}
 use Rattle.message.specs.Reactions.{sent, sent-count}
 use Rattle.message.specs.declared.figures.Figures.{Figures}
-use Rattle.message.specs.declared.kind.Kind.the-variants.{Gets}
+use Rattle.message.specs.declared.kind.Kind.{Kind}
 use Rattle.message.specs.declared.message.Message.{Message}
 use Rattle.message.specs.declared.node.Node.the-variants as node
 use Rattle.message.specs.declared.reaction.Outbox.{Outbox}
@@ -62,20 +63,6 @@ argument i = Board (Argument i)
 -- The first argument outside its range, then what comes after.
 abbrev pub check : {R : Type 0} → Bool → Fault → Result R Fault → Result R Fault
 check ok f r = cond ok r (Err f)
-
--- Stands for a message that is not there.
-abbrev pub no-message : Message ℕ
-no-message = record {
-  kind = Gets;
-  sender = 0;
-  receiver = 0;
-  place = 0;
-  words = record { at = [] };
-  clock = 0;
-  sequence = 0;
-  exclusive = false;
-  refused = None;
-}
 
 -- No number of a device node passed its end; the next number may stand one past it.
 abbrev pub bridge-within : {S : Type 0} → Bridge S ℕ → Bool
@@ -126,6 +113,10 @@ module _ {A B : Type 0} where
   called w p (Ok r) = Ok (by-processor w p r)
   called w p (Err f) = Err (Board (Refused f))
 
+  abbrev pub wished : {S : Type 0} → (Reaction (Bridge S ℕ) → Effect A B) → Result (Reaction (Bridge S ℕ)) DeviceFault → Result (Effect A B) Fault
+  wished effect (Ok r) = Ok (effect r)
+  wished effect (Err f) = Err (Device f)
+
   -- All or nothing: room for the messages, room for the entry, numbers within their end.
   abbrev pub committed : World A B → List (Message ℕ) → Effect A B → Answer × World A B
   committed w waiting e =
@@ -163,11 +154,20 @@ module _ {A B : Type 0} (ma : Meaning A) (mb : Meaning B) where
   ruled w i None = Err (Network (NoRule i))
   ruled w i (Some e) = Ok e
 
+  -- The oldest of a pair goes first.
+  abbrev pub in-turn : World A B → ℕ → Option ℕ → Result (Effect A B) Fault
+  in-turn w i (Some o) = Err (Network (OlderWaits o))
+  in-turn w i None = ruled w i (delivered w (getD (w .messages) i no-message))
+
+  abbrev pub requested : World A B → ℕ → ℕ → Option Kind → Result (Effect A B) Fault
+  requested w p b None = Err (argument 3)
+  requested w p b (Some k) = called w p (processor.request (processor-at w p) p b k)
+
   abbrev pub acted : World A B → ℕ → Result (Effect A B) Fault
   acted w d =
       cond (ltb d 1)
-      (elim (bridge.act ma 0 (w .count) (w .first)) [ Ok r ↦ Ok (by-first w r) | Err f ↦ Err (Device f) ])
-      (elim (bridge.act mb 1 (w .count) (w .second)) [ Ok r ↦ Ok (by-second w r) | Err f ↦ Err (Device f) ])
+      (wished (by-first w) (bridge.act ma 0 (w .count) (w .first)))
+      (wished (by-second w) (bridge.act mb 1 (w .count) (w .second)))
 
   -- The checks before the commit, in the order of their numbers.
   abbrev pub effect : Call → World A B → Result (Effect A B) Fault
@@ -179,7 +179,7 @@ module _ {A B : Type 0} (ma : Meaning A) (mb : Meaning B) where
       (called w p (processor.store (processor-at w p) p n v)))
   effect (Request p b k) w =
       check (ltb p (w .count)) (argument 1) (check (ltb b 16) (argument 2)
-      (elim (request-numbered k) [ None ↦ Err (argument 3) | Some j ↦ called w p (processor.request (processor-at w p) p b j) ]))
+      (requested w p b (request-numbered k)))
   effect (LdIo p d n) w =
       check (ltb p (w .count)) (argument 1) (check (ltb d 2) (argument 2) (check (ltb n (length (words-of w d))) (argument 3)
       (called w p (processor.ldio (processor-at w p) p d n))))
@@ -193,10 +193,7 @@ module _ {A B : Type 0} (ma : Meaning A) (mb : Meaning B) where
   effect (Act d) w = check (ltb d 2) (argument 1) (acted w d)
   effect (Deliver i) w =
       check (ltb i (length (w .messages))) (argument 1)
-      (elim (oldest-of-pair (w .messages) i) [
-        | Some o ↦ Err (Network (OlderWaits o))
-        | None ↦ ruled w i (delivered w (getD (w .messages) i no-message))
-      ])
+      (in-turn w i (oldest-of-pair (w .messages) i))
   effect (Poll p) w = check (ltb p (w .count)) (argument 1) (Ok (by-processor w p (processor.poll (processor-at w p))))
 
   -- What still waits while the call is made: a delivered message does not.
@@ -212,9 +209,9 @@ module _ {A B : Type 0} (ma : Meaning A) (mb : Meaning B) where
   waiting (Deliver i) w = removed (w .messages) i
   waiting (Poll p) w = w .messages
 
+  abbrev pub settled : Call → World A B → Result (Effect A B) Fault → Answer × World A B
+  settled c w (Err f) = (Err f, w)
+  settled c w (Ok e) = committed w (waiting c w) e
+
   abbrev pub step : Call → World A B → Answer × World A B
-  step c w =
-      elim (check (w .fit) (Board NotFit) (effect c w)) [
-        | Err f ↦ (Err f, w)
-        | Ok e ↦ committed w (waiting c w) e
-      ]
+  step c w = settled c w (check (w .fit) (Board NotFit) (effect c w))
