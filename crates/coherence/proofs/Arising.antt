@@ -96,9 +96,9 @@ module _ {A B : Type 0} (ma : Meaning A) (mb : Meaning B) (w : World A B) where
         | node.Nowhere ↦ None
         | node.Processor p ↦ mapped (by-processor w p) (receipt.receive (processor-at w p) p m)
         | node.Device d ↦
-          cond (ltb d 1)
-          (mapped (by-first w) (bridge-reactions.receive ma 0 (w .first) m))
-          (mapped (by-second w) (bridge-reactions.receive mb 1 (w .second) m))
+            cond (ltb d 1)
+            (mapped (by-first w) (bridge-reactions.receive ma 0 (w .first) m))
+            (mapped (by-second w) (bridge-reactions.receive mb 1 (w .second) m))
         | node.Home b ↦ mapped (by-home w b) (home.received (home-at w b) b m)
       ]
 
@@ -133,6 +133,7 @@ module _ {A B : Type 0} (ma : Meaning A) (mb : Meaning B) (w : World A B) where
     where
       wish-done : {S : Type 0} (x : Result (Reaction (Bridge S ℕ)) DeviceFault) (r : Reaction (Bridge S ℕ)) → x ≡ Ok r → elim x [ Ok r ↦ Some r | Err f ↦ None ] ≡ Some r
       wish-done x r is = rw is refl
+
       go : (b : Bool) → cond b (wished (by-first w) (bridge-reactions.act ma 0 (w .count) (w .first))) (wished (by-second w) (bridge-reactions.act mb 1 (w .count) (w .second))) ≡ Ok e → Arises e
       go true h =
           let c = from-wish e (by-first w) (bridge-reactions.act ma 0 (w .count) (w .first)) h in

@@ -1,29 +1,22 @@
 -- The clocks of nodes, and what an effect does to them.
 use mathlib.Core.Bool.{Bool, true, false, cond}
-use mathlib.Core.List.{List}
-use mathlib.Core.Logic.{_⊎_, inl, inr}
-use mathlib.Core.Path.{_≡_, refl, sym, ap, subst, _∙_}
+use mathlib.Core.Logic.{_⊎_}
+use mathlib.Core.Path.{_≡_, refl, ap}
 use Prim.Native.Nat.{ℕ, _+_, _-_, _<_, _≤_}
 use native.Mathlib.Omega.{arith}
 use lib.Dec.{eqb, ltb}
-use lib.ListN.{length, getD, set}
-use Rattle.bridge.proofs.Clocks as bridge
+use lib.ListN.{length}
 use Rattle.bridge.specs.declared.state.Bridge.{Bridge}
-use Rattle.device.specs.Meaning.{Meaning}
 use Rattle.home.specs.declared.machine.Home.{Home}
-use Rattle.message.specs.Nodes.{home-node, device-node}
+use Rattle.message.specs.Nodes.{home-node}
 use Rattle.ordering.specs.Stamps.{stamped}
 use Rattle.ordering.specs.declared.clock.Clock.{Clock}
-use Rattle.ordering.specs.declared.stamp.Stamp.{Stamp}
-use Rattle.processor.proofs.Stamping as processor
 use Rattle.std.proofs.shelf.Lists.{getD-set-same, getD-set-other}
 use Rattle.std.proofs.shelf.Tests.{lt-ltb, le-ltb, ltb-false, ne-eqb}
-use Rattle.std.proofs.shelf.Ways.{tells}
 use Rattle.std.specs.Options.{isSome}
-use Rattle.std.specs.declared.option.Option.{Option}
-use Rattle.std.specs.declared.option.Option.the-variants.{Some, None}
+use Rattle.std.specs.declared.option.Option.the-variants.{Some}
 use Rattle.trail.specs.declared.entry.Entry.{Entry}
-use Rattle.coherence.specs.Steps.{Effect, by-processor, by-home, by-first, by-second}
+use Rattle.coherence.specs.Steps.{Effect}
 use Rattle.coherence.specs.Worlds.{World, processor-at, home-at, with-processor, with-home, with-first, with-second, no-processor, no-home}
 use Rattle.processor.specs.declared.state.Processor.{Processor}
 
@@ -54,23 +47,23 @@ module _ {A B : Type 0} where
     pub rises : isSome (e .entry) ≡ true → Earlier (clock-at w (e .node)) (clock-at (e .next) (e .node))
 
   module _ (w : World A B) (p : ℕ) (s : Processor ℕ) where
-    processor-clock : length (w .processors) ≡ 4 → p < 4 → clock-at (with-processor w p s) p ≡ s .clock
+    pub processor-clock : length (w .processors) ≡ 4 → p < 4 → clock-at (with-processor w p s) p ≡ s .clock
     processor-clock four small =
         rw (lt-ltb p 4 small) (ap (λ (q : Processor ℕ). q .clock) (getD-set-same (w .processors) p s no-processor (omega arith)))
 
-    processor-others : (n : ℕ) → (n ≡ p → ⊥) → clock-at (with-processor w p s) n ≡ clock-at w n
+    pub processor-others : (n : ℕ) → (n ≡ p → ⊥) → clock-at (with-processor w p s) n ≡ clock-at w n
     processor-others n apart =
         ap (λ (q : Processor ℕ). cond (ltb n 4) (q .clock) (cond (eqb n 4) (w .first .clock) (cond (eqb n 5) (w .second .clock) (cond (ltb n 16) (no-home .clock) (home-at w (n - 16) .clock)))))
         (getD-set-other (w .processors) p n s no-processor apart)
 
   module _ (w : World A B) (b : ℕ) (h : Home ℕ) where
-    home-clock : length (w .homes) ≡ 16 → b < 16 → clock-at (with-home w b h) (home-node b) ≡ h .clock
+    pub home-clock : length (w .homes) ≡ 16 → b < 16 → clock-at (with-home w b h) (home-node b) ≡ h .clock
     home-clock sixteen small =
         let place : 16 + b - 16 ≡ b = omega arith in
         rw (le-ltb (16 + b) 4 (omega arith), ne-eqb (16 + b) 4 (omega arith), ne-eqb (16 + b) 5 (omega arith), le-ltb (16 + b) 16 (omega arith), place)
         (ap (λ (x : Home ℕ). x .clock) (getD-set-same (w .homes) b h no-home (omega arith)))
 
-    home-others : (n : ℕ) → (n ≡ home-node b → ⊥) → clock-at (with-home w b h) n ≡ clock-at w n
+    pub home-others : (n : ℕ) → (n ≡ home-node b → ⊥) → clock-at (with-home w b h) n ≡ clock-at w n
     home-others n apart =
         ap (λ (c : Clock ℕ). cond (ltb n 4) (processor-at w n .clock) (cond (eqb n 4) (w .first .clock) (cond (eqb n 5) (w .second .clock) c))) (go (ltb n 16) refl)
       where
@@ -81,8 +74,8 @@ module _ {A B : Type 0} where
             let other : n - 16 ≡ b → ⊥ = λ same. apart (omega arith) in
             ap (λ (x : Home ℕ). x .clock) (getD-set-other (w .homes) b (n - 16) h no-home other)
 
-  first-others : (w : World A B) (d : Bridge A ℕ) (n : ℕ) → (n ≡ 4 → ⊥) → clock-at (with-first w d) n ≡ clock-at w n
+  pub first-others : (w : World A B) (d : Bridge A ℕ) (n : ℕ) → (n ≡ 4 → ⊥) → clock-at (with-first w d) n ≡ clock-at w n
   first-others w d n apart = rw (ne-eqb n 4 apart) refl
 
-  second-others : (w : World A B) (d : Bridge B ℕ) (n : ℕ) → (n ≡ 5 → ⊥) → clock-at (with-second w d) n ≡ clock-at w n
+  pub second-others : (w : World A B) (d : Bridge B ℕ) (n : ℕ) → (n ≡ 5 → ⊥) → clock-at (with-second w d) n ≡ clock-at w n
   second-others w d n apart = rw (ne-eqb n 5 apart) refl

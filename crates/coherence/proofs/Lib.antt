@@ -1,5 +1,9 @@
 pub mod Arising
 pub mod Clocks
+pub mod Dating
+pub mod HomeClocks
 pub mod Reading
 pub mod Rising
+pub mod Running
 pub mod Stepping
+pub mod Timing

@@ -31,14 +31,16 @@ block-words ws b = record {
 }
 
 module _ {A B : Type 0} (ma : Meaning A) (mb : Meaning B) where
-  -- 1 to 4 processors, a clock up to its end, 64 words, devices of 1 to 64 words.
-  abbrev pub is-fit : Making A B → Bool
-  is-fit k =
-      leb 1 (k .processors) && leb (k .processors) 4
-      && leb (k .clock) number-end
-      && eqb (length (k .words)) 64
+  -- A clock up to its end, 64 words, devices of 1 to 64 words.
+  abbrev pub rest-fits : Making A B → Bool
+  rest-fits k =
+      leb (k .clock) number-end && eqb (length (k .words)) 64
       && leb 1 (length (ma .words (k .first))) && leb (length (ma .words (k .first))) 64
       && leb 1 (length (mb .words (k .second))) && leb (length (mb .words (k .second))) 64
+
+  -- And 1 to 4 processors.
+  abbrev pub is-fit : Making A B → Bool
+  is-fit k = leb 1 (k .processors) && (leb (k .processors) 4 && rest-fits k)
 
   -- Homes Idle, lines I, slots free, nothing out, all clocks at the start; both lists empty.
   abbrev pub make : Making A B → World A B

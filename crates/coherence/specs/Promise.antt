@@ -32,8 +32,11 @@ abbrev pub Stands : {X : Type 0} → List X → X → Type 0
 Stands xs x = (i : ℕ) × (nth xs i ≡ Some x)
 
 -- a. Two entries of the trail have equal stamps, or the same party and sequence number, only if they are the same.
+abbrev pub Own-stamps : List Entry → Type 0
+Own-stamps trail = (i j : ℕ) (e f : Entry) → nth trail i ≡ Some e → nth trail j ≡ Some f → e .stamp ≡ f .stamp → i ≡ j
+
 pub record Unique (trail : List Entry) : Type 0 where
-  pub stamps : (i j : ℕ) (e f : Entry) → nth trail i ≡ Some e → nth trail j ≡ Some f → e .stamp ≡ f .stamp → i ≡ j
+  pub stamps : Own-stamps trail
   pub numbers : (i j : ℕ) (e f : Entry) → nth trail i ≡ Some e → nth trail j ≡ Some f → e .party ≡ f .party → e .sequence ≡ f .sequence → i ≡ j
 
 -- An operation is done once the trail has its party and sequence number.
@@ -96,3 +99,7 @@ module _ {A B : Type 0} (ma : Meaning A) (mb : Meaning B) (k : Making A B) where
 -- For every making and every list of calls, refused ones included.
 abbrev pub Order-promise : {A B : Type 0} → Meaning A → Meaning B → Type 0
 Order-promise {A} {B} ma mb = (k : Making A B) (calls : List Call) → Order-kept ma mb k (run ma mb k calls)
+
+-- The part of it that stands so far: in every run, no two entries have one stamp.
+abbrev pub Stamps-are-unique : {A B : Type 0} → Meaning A → Meaning B → Type 0
+Stamps-are-unique {A} {B} ma mb = (k : Making A B) (calls : List Call) → Own-stamps (run ma mb k calls .world .trail)

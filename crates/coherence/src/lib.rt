@@ -3,3 +3,4 @@
 pub mod call;
 pub mod cases;
 pub mod fault;
+pub mod promise;

@@ -1,0 +1,84 @@
+-- A home's clock: it stays or passes, and its operation is stamped with it.
+use mathlib.Core.Bool.{Bool, true, false, cond}
+use mathlib.Core.Logic.{_⊎_, inl, inr}
+use mathlib.Core.Path.{_≡_, refl, sym, ap}
+use Prim.Native.Nat.{ℕ, _+_, _<_, max}
+use native.Mathlib.Omega.{arith}
+use Rattle.home.proofs.Keeps.{by-rule}
+use Rattle.home.specs.Directories.{awaits}
+use Rattle.home.specs.Reactions.{quiet, clock-after, entry-for, finished, refused, asking-home, began, asked, heard-home, after-hearing, acknowledged, clock-freed, awaits-taken, taken, received, words-after}
+use Rattle.home.specs.Requests.{operation-for, request-of}
+use Rattle.home.specs.Sets.{is-empty}
+use Rattle.home.specs.declared.directory.Directory.{Directory}
+use Rattle.home.specs.declared.machine.Home.{Home}
+use Rattle.home.specs.declared.processors.Processors.{Processors}
+use Rattle.home.specs.declared.request.Request.{Request}
+use Rattle.message.specs.Nodes.{home-node, is-device}
+use Rattle.message.specs.declared.message.Message.{Message}
+use Rattle.message.specs.declared.reaction.Reaction.{Reaction}
+use Rattle.ordering.specs.Clocks.{passed, counted}
+use Rattle.ordering.specs.Stamps.{stamped}
+use Rattle.ordering.specs.declared.clock.Clock.{Clock}
+use Rattle.ordering.specs.declared.operation.Operation.{Operation}
+use Rattle.ordering.specs.declared.operation.Words.{Words}
+use Rattle.std.proofs.shelf.Tests.{cond-both}
+use Rattle.std.specs.Options.{isSome}
+use Rattle.std.specs.Slices.{found}
+use Rattle.std.specs.declared.option.Option.{Option}
+use Rattle.std.specs.declared.option.Option.the-variants.{Some, None}
+use Rattle.trail.specs.declared.entry.Entry.{Entry}
+
+never : {X : Type 0} → _≡_ {A = ℕ} 0 1 → X
+never h = absurd (let no-way : ⊥ = omega arith in no-way)
+
+pub record Home-timely (c : Clock ℕ) (b : ℕ) (x : Reaction (Home ℕ)) : Type 0 where
+  pub onward : (x .next .clock ≡ c) ⊎ (c .global < x .next .clock .global)
+  pub stamps : (e : Entry) → x .entry ≡ Some e → e .stamp ≡ stamped (x .next .clock) (home-node b)
+  pub rises : isSome (x .entry) ≡ true → c .global < x .next .clock .global
+
+above : (c : Clock ℕ) (d : Directory) → c .global < clock-after c d .global
+above c d =
+    cond-both (isSome (operation-for (d .request .kind))) (counted (passed c (max (d .latest) (d .request .clock)))) (passed c (d .latest))
+    (λ (k : Clock ℕ). c .global < k .global) (λ _. omega arith) (λ _. omega arith)
+
+finish-stamped : (b : ℕ) (r : Request) (w : Words) (c : Clock ℕ) (e : Entry) → entry-for b r w c ≡ Some e → e .stamp ≡ stamped c (home-node b)
+finish-stamped b r w c e h = go (operation-for (r .kind)) h
+  where
+    go : (o : Option Operation)
+        → _≡_ {A = Option Entry} (elim o [
+          | None ↦ None
+          | Some x ↦ Some (record { party = r .requester; sequence = r .sequence; operation = x; space = 0; place = b; values = w; stamp = stamped c (home-node b) })
+        ]) (Some e) → e .stamp ≡ stamped c (home-node b)
+    go None h = never cc
+    go (Some x) h = cc
+
+finishes : (h : Home ℕ) (b : ℕ) → Home-timely (h .clock) b (finished h b)
+finishes h b = record {
+  onward = inr (above (h .clock) (h .directory));
+  stamps = finish-stamped b (h .directory .request) (words-after (h .words) (h .directory .request)) (clock-after (h .clock) (h .directory));
+  rises = λ _. above (h .clock) (h .directory);
+}
+
+-- nothing is done, and the clock stays or passes
+rests : (c : Clock ℕ) (b : ℕ) (x : Reaction (Home ℕ)) → x .entry ≡ None → (x .next .clock ≡ c) ⊎ (c .global < x .next .clock .global) → Home-timely c b x
+rests c b x is moved = record { onward = moved; stamps = λ e h. never cc; rises = λ h. never (let same : isSome (x .entry) ≡ false = ap isSome is in cc) }
+
+freed : (c : Clock ℕ) (n : ℕ) → (clock-freed c n ≡ c) ⊎ (c .global < clock-freed c n .global)
+freed c n =
+    cond-both (is-device n) (passed c (c .global)) c (λ (k : Clock ℕ). (k ≡ c) ⊎ (c .global < k .global)) (λ _. inr (omega arith)) (λ _. inl refl)
+
+pub home-timely : (h : Home ℕ) (b : ℕ) (m : Message ℕ) → found (received h b m) (Home-timely (h .clock) b)
+home-timely h b m =
+    by-rule (Home-timely (h .clock) b) h b m
+    (λ _. cond-both (awaits (h .directory) (m .sender)) (Some (after-hearing k b)) None Found
+    (λ _. cond-both (is-empty (k .directory .awaited)) (finished k b) (quiet k) (Home-timely (h .clock) b) (λ _. finishes k b) (λ _. rests (h .clock) b (quiet k) refl (inl refl)))
+    (λ _. tt))
+    (cond-both (awaits-taken (h .directory) (m .sender)) _ None Found (λ _. rests (h .clock) b _ refl (freed (h .clock) (m .sender))) (λ _. tt))
+    (rests (h .clock) b (refused h b (request-of m)) refl (inl refl))
+    (λ _ s. cond-both (is-empty s) (finished (began h (request-of m)) b) _ (Home-timely (h .clock) b) (λ _. finishes (began h (request-of m)) b) (λ _. rests (h .clock) b _ refl (inl refl)))
+  where
+    k : Home ℕ
+    k = heard-home h (m .sender) (m .exclusive) (m .words) (m .clock)
+
+    Found : Option (Reaction (Home ℕ)) → Type 0
+    Found o = found o (Home-timely (h .clock) b)

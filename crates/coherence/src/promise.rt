@@ -1,0 +1,9 @@
+//! What every run of calls keeps, for every two devices.
+
+ghost use Rattle.coherence.specs.Promise.{Stamps-are-unique};
+use device::meaning::Device;
+
+/// In every run, no two entries of the trail have one stamp.
+pub fn stamps_are_unique<A: Device, B: Device>()
+    ensures { λ _. ⌜ Stamps-are-unique (A·Device .meaning) (B·Device .meaning) ⌝ }
+{}
