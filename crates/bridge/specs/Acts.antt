@@ -9,7 +9,7 @@ use Rattle.std.specs.declared.option.Option.the-variants.{Some, None}
 use Rattle.std.specs.declared.result.Result.{Result}
 use Rattle.std.specs.declared.result.Result.the-variants.{Ok, Err}
 use Rattle.ordering.specs.Clocks.{counted}
-use Rattle.ordering.specs.Words.{one-word, no-words}
+use Rattle.ordering.specs.Words.{one-word, no-words, first-word}
 use Rattle.ordering.specs.declared.clock.Clock.{Clock}
 use Rattle.ordering.specs.declared.operation.Operation.{Operation}
 use Rattle.ordering.specs.declared.operation.Operation.the-variants.{Ld, St, LdIo, StIo, Int, LdBlk, StBlk}
@@ -32,9 +32,6 @@ use Rattle.bridge.specs.declared.state.Bridge.{Bridge}
 
 abbrev pub Decision : Type 0
 Decision = Result (Plan ℕ) DeviceFault
-
-abbrev pub first-word : Words → ℕ
-first-word ws = getD (ws .at) 0 0
 
 abbrev pub word-count : {S : Type 0} → Meaning S → Bridge S ℕ → ℕ
 word-count m b = length (m .words (b .device))

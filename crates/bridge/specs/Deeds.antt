@@ -15,7 +15,7 @@ use Rattle.trail.specs.declared.entry.Entry.{Entry}
 use Rattle.device.specs.Meaning.{Meaning, read-exit, write-exit}
 use Rattle.message.specs.Messages.{plain}
 use Rattle.message.specs.Nodes.{device-node}
-use Rattle.message.specs.Reactions.{silent, single}
+use Rattle.message.specs.Reactions.{silent, single, sending, doing}
 use Rattle.message.specs.declared.kind.Kind.the-variants as kind
 use Rattle.message.specs.declared.message.Message.{Message}
 use Rattle.message.specs.declared.reaction.Reaction.{Reaction}
@@ -26,12 +26,6 @@ use Rattle.bridge.specs.declared.plan.Deed.the-variants.{Load, Store, Interrup
 use Rattle.bridge.specs.declared.plan.Plan.{Plan}
 use Rattle.bridge.specs.declared.plan.WordAccess.{WordAccess}
 use Rattle.bridge.specs.declared.state.Bridge.{Bridge}
-
-abbrev pub doing : {S : Type 0} → Entry → Bridge S ℕ → Reaction (Bridge S ℕ)
-doing e b = record { next = b; sent = silent; entry = Some e; answer = None }
-
-abbrev pub sending : {S : Type 0} → Message ℕ → Bridge S ℕ → Reaction (Bridge S ℕ)
-sending x b = record { next = b; sent = single x; entry = None; answer = None }
 
 -- The entry of an operation at one of the device's words, in the device's space, stamped at its node.
 abbrev pub access-entry : ℕ → Clock ℕ → WordAccess → Operation → ℕ → Entry
@@ -51,13 +45,13 @@ word-at m b w = getD (m .words (b .device)) w 0
 -- An own LDio: the word is read, and the device told it.
 abbrev pub loaded : {S : Type 0} → Meaning S → ℕ → Bridge S ℕ → WordAccess → Reaction (Bridge S ℕ)
 loaded m d b a =
-    doing (access-entry d (b .clock) a LdIo (word-at m b (a .place)))
+    doing (access-entry d (b .clock) a LdIo (word-at m b (a .place))) None
     (at-device (m .accepted (read-exit m (b .device) (a .place)) (word-at m b (a .place))) b)
 
 -- An own STio: the word is written, and the device told.
 abbrev pub stored : {S : Type 0} → Meaning S → ℕ → Bridge S ℕ → WordAccess → ℕ → Reaction (Bridge S ℕ)
 stored m d b a v =
-    doing (access-entry d (b .clock) a StIo v)
+    doing (access-entry d (b .clock) a StIo v) None
     (at-device (m .accepted (write-exit m (b .device) (a .place) v) 0) b)
 
 -- A wish goes out as a message, and the device is told.
@@ -93,7 +87,7 @@ answered m d b a = record {
 -- A processor's STio: the word is written.
 abbrev pub written : {S : Type 0} → Meaning S → ℕ → Bridge S ℕ → WordAccess → ℕ → Reaction (Bridge S ℕ)
 written m d b a v =
-    doing (access-entry d (b .clock) a StIo v) (at-device (write-exit m (b .device) (a .place) v) b)
+    doing (access-entry d (b .clock) a StIo v) None (at-device (write-exit m (b .device) (a .place) v) b)
 
 -- A block request is answered: it ends, and TAKEN goes to the home. At WORDS the device is told the words first.
 abbrev pub ended : {S : Type 0} → ℕ → Bridge S ℕ → ℕ → ℕ → Reaction (Bridge S ℕ)

@@ -11,7 +11,7 @@ use Rattle.std.specs.declared.option.Option.the-variants.{Some, None}
 use Rattle.std.specs.declared.result.Result.the-variants.{Ok, Err}
 use Rattle.ordering.specs.Operations.{is}
 use Rattle.ordering.specs.Stamps.{stamped}
-use Rattle.ordering.specs.Words.{one-word}
+use Rattle.ordering.specs.Words.{one-word, first-word}
 use Rattle.ordering.specs.declared.clock.Clock.{Clock}
 use Rattle.ordering.specs.declared.operation.Operation.the-variants as operation
 use Rattle.trail.specs.declared.entry.Entry.{Entry}
@@ -27,7 +27,7 @@ use Rattle.message.specs.declared.kind.Kind.{Kind}
 use Rattle.message.specs.declared.kind.Kind.the-variants as kind
 use Rattle.message.specs.declared.message.Message.{Message}
 use Rattle.message.specs.declared.reaction.Reaction.{Reaction}
-use Rattle.bridge.specs.Acts.{first-word, any-out}
+use Rattle.bridge.specs.Acts.{any-out}
 use Rattle.bridge.specs.Deeds.{performed}
 use Rattle.bridge.specs.Faults.{fault-place}
 use Rattle.bridge.specs.Inputs.{Input, Each-reaction, message-of}
@@ -40,10 +40,7 @@ use Rattle.bridge.specs.declared.plan.Deed.{Deed}
 use Rattle.bridge.specs.declared.plan.Deed.the-variants.{Load, Store, Interrupt, Request, Read, Write, Land, Finish, Resend}
 use Rattle.bridge.specs.declared.plan.Plan.{Plan}
 use Rattle.bridge.specs.declared.state.Bridge.{Bridge}
-
--- By global number, then local number.
-abbrev pub Earlier : Clock ℕ → Clock ℕ → Type 0
-Earlier c d = (c .global < d .global) ⊎ ((c .global ≡ d .global) × (c .local < d .local))
+use Rattle.ordering.specs.Clocks.{Earlier}
 
 -- Kinds whose clock a bridge passes.
 abbrev pub tells-time : Kind → Bool

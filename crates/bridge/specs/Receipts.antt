@@ -13,12 +13,13 @@ use Rattle.message.specs.Requests.{is-out}
 use Rattle.message.specs.declared.kind.Kind.{Kind}
 use Rattle.message.specs.declared.kind.Kind.the-variants as kind
 use Rattle.message.specs.declared.message.Message.{Message}
-use Rattle.bridge.specs.Acts.{first-word, word-count}
+use Rattle.bridge.specs.Acts.{word-count}
 use Rattle.bridge.specs.declared.plan.Deed.{Deed}
 use Rattle.bridge.specs.declared.plan.Deed.the-variants.{Read, Write, Land, Finish, Resend}
 use Rattle.bridge.specs.declared.plan.Plan.{Plan}
 use Rattle.bridge.specs.declared.plan.WordAccess.{WordAccess}
 use Rattle.bridge.specs.declared.state.Bridge.{Bridge}
+use Rattle.ordering.specs.Words.{first-word}
 
 -- The device's own numbers go on only at its own operations.
 abbrev pub answering : {S : Type 0} → Bridge S ℕ → Clock ℕ → Deed → Plan ℕ

@@ -44,7 +44,7 @@ pub passed-check : {R : Type 0} (ok : Bool) (f : Fault) (x : Result R Fault) (r 
 passed-check true f x r h = (refl, h)
 passed-check false f x r h = let z : _≡_ {A = ℕ} 0 1 = cc in absurd (let no-way : ⊥ = omega arith in no-way)
 
-never : {A : Type 0} → _≡_ {A = ℕ} 0 1 → A
+pub never : {A : Type 0} → _≡_ {A = ℕ} 0 1 → A
 never h = absurd (let no-way : ⊥ = omega arith in no-way)
 
 -- where nodes are

@@ -19,10 +19,7 @@ use Rattle.trail.specs.declared.entry.Entry.{Entry}
 use Rattle.coherence.specs.Steps.{Effect}
 use Rattle.coherence.specs.Worlds.{World, processor-at, home-at, with-processor, with-home, with-first, with-second, no-processor, no-home}
 use Rattle.processor.specs.declared.state.Processor.{Processor}
-
--- By global number, then local number.
-abbrev pub Earlier : Clock ℕ → Clock ℕ → Type 0
-Earlier c d = (c .global < d .global) ⊎ ((c .global ≡ d .global) × (c .local < d .local))
+use Rattle.ordering.specs.Clocks.{Earlier}
 
 module _ {A B : Type 0} where
   -- The clock of a node.

@@ -16,10 +16,11 @@ use Rattle.std.specs.declared.option.Option.{Option}
 use Rattle.std.specs.declared.option.Option.the-variants.{Some, None}
 use Rattle.std.specs.shelf.Lists.{All}
 use Rattle.trail.specs.declared.entry.Entry.{Entry}
-use Rattle.coherence.proofs.Clocks.{Earlier, clock-at, Timely}
+use Rattle.coherence.proofs.Clocks.{clock-at, Timely}
 use Rattle.coherence.proofs.Rising.{Differ, Apart, apart-push}
 use Rattle.coherence.specs.Steps.{Effect}
 use Rattle.coherence.specs.Worlds.{World}
+use Rattle.ordering.specs.Clocks.{Earlier}
 
 -- A stamp that a clock has shown.
 abbrev pub Past : Clock ℕ → Stamp → Type 0

@@ -6,7 +6,7 @@ use Prim.Native.Nat.{ℕ, _+_, _<_, max}
 use native.Mathlib.Omega.{arith}
 use Rattle.home.proofs.Keeps.{by-rule}
 use Rattle.home.specs.Directories.{awaits}
-use Rattle.home.specs.Reactions.{quiet, clock-after, entry-for, finished, refused, asking-home, began, asked, heard-home, after-hearing, acknowledged, clock-freed, awaits-taken, taken, received, words-after}
+use Rattle.home.specs.Reactions.{clock-after, entry-for, finished, refused, asking-home, began, asked, heard-home, after-hearing, acknowledged, clock-freed, awaits-taken, taken, received, words-after}
 use Rattle.home.specs.Requests.{operation-for, request-of}
 use Rattle.home.specs.Sets.{is-empty}
 use Rattle.home.specs.declared.directory.Directory.{Directory}
@@ -27,9 +27,8 @@ use Rattle.std.specs.Slices.{found}
 use Rattle.std.specs.declared.option.Option.{Option}
 use Rattle.std.specs.declared.option.Option.the-variants.{Some, None}
 use Rattle.trail.specs.declared.entry.Entry.{Entry}
-
-never : {X : Type 0} → _≡_ {A = ℕ} 0 1 → X
-never h = absurd (let no-way : ⊥ = omega arith in no-way)
+use Rattle.message.specs.Reactions.{quiet}
+use Rattle.coherence.proofs.Arising.{never}
 
 pub record Home-timely (c : Clock ℕ) (b : ℕ) (x : Reaction (Home ℕ)) : Type 0 where
   pub onward : (x .next .clock ≡ c) ⊎ (c .global < x .next .clock .global)

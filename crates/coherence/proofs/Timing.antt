@@ -25,10 +25,11 @@ use Rattle.std.specs.declared.option.Option.{Option}
 use Rattle.std.specs.declared.option.Option.the-variants.{Some, None}
 use Rattle.trail.specs.declared.entry.Entry.{Entry}
 use Rattle.coherence.proofs.Arising.{Arises, at-processor, at-home, at-first, at-second}
-use Rattle.coherence.proofs.Clocks.{Earlier, clock-at, Shape, Timely, processor-clock, processor-others, home-clock, home-others, first-others, second-others}
+use Rattle.coherence.proofs.Clocks.{clock-at, Shape, Timely, processor-clock, processor-others, home-clock, home-others, first-others, second-others}
 use Rattle.coherence.proofs.HomeClocks.{Home-timely, home-timely}
 use Rattle.coherence.specs.Steps.{Effect, by-processor, by-home, by-first, by-second}
 use Rattle.coherence.specs.Worlds.{World, processor-at, home-at, with-home, with-processor}
+use Rattle.ordering.specs.Clocks.{Earlier}
 
 module _ {A B : Type 0} where
   -- from the clock of the node before and after

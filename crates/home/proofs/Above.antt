@@ -16,12 +16,13 @@ use Rattle.message.specs.declared.message.Message.{Message}
 use Rattle.message.specs.declared.reaction.Reaction.{Reaction}
 use Rattle.home.specs.Directories.{awaits}
 use Rattle.home.specs.Laws.{has-replied, Finishes-above-all, Hears-all, Replied-above, Replies-above-all}
-use Rattle.home.specs.Reactions.{quiet, began, finished, asked, heard-home, after-hearing, acknowledged}
+use Rattle.home.specs.Reactions.{began, finished, asked, heard-home, after-hearing, acknowledged}
 use Rattle.home.specs.Requests.{request-of, operation-for}
 use Rattle.home.specs.Sets.{is-empty}
 use Rattle.home.specs.declared.machine.Home.{Home}
 use Rattle.home.specs.declared.processors.Processors.{Processors}
 use Rattle.home.proofs.Keeps.{by-rule}
+use Rattle.message.specs.Reactions.{quiet}
 
 finishes : Finishes-above-all
 finishes h b = search needs

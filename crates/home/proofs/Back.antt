@@ -13,14 +13,14 @@ use Rattle.std.specs.shelf.Lists.{All}
 use Rattle.message.specs.Kinds.{same-kind}
 use Rattle.message.specs.Messages.{plain}
 use Rattle.message.specs.Nodes.{home-node}
-use Rattle.message.specs.Reactions.{gathered, sent}
+use Rattle.message.specs.Reactions.{gathered, sent, quiet}
 use Rattle.message.specs.declared.kind.Kind.{Kind}
 use Rattle.message.specs.declared.kind.Kind.the-variants.{Nack}
 use Rattle.message.specs.declared.message.Message.{Message}
 use Rattle.message.specs.declared.reaction.Reaction.{Reaction}
 use Rattle.home.specs.Directories.{awaits}
 use Rattle.home.specs.Laws.{Given-back, Nacks-give-back}
-use Rattle.home.specs.Reactions.{quiet, began, finished, asked, ask-one, asks, heard-home, after-hearing, acknowledged}
+use Rattle.home.specs.Reactions.{began, finished, asked, ask-one, asks, heard-home, after-hearing, acknowledged}
 use Rattle.home.specs.Requests.{request-of, asks-by, reply-kind}
 use Rattle.home.specs.Sets.{has, is-empty}
 use Rattle.home.specs.declared.machine.Home.{Home}

@@ -17,7 +17,7 @@ use Rattle.ordering.specs.declared.operation.Words.{Words}
 use Rattle.home.specs.Laws.{brings-words, does-write, Clock-never-goes-back, Words-stay}
 use Rattle.home.specs.Plans.{plan}
 use Rattle.home.specs.Directories.{view, awaits}
-use Rattle.home.specs.Reactions.{quiet, finished, refused, asked, planned, heard-home, after-hearing, acknowledged, taken, received}
+use Rattle.home.specs.Reactions.{finished, refused, asked, planned, heard-home, after-hearing, acknowledged, taken, received}
 use Rattle.home.specs.Requests.{request-of}
 use Rattle.home.specs.Sets.{is-empty}
 use Rattle.home.specs.declared.machine.Home.{Home}
@@ -25,6 +25,7 @@ use Rattle.home.specs.declared.plan.Plan.{Plan}
 use Rattle.home.specs.declared.plan.Plan.the-variants.{Nothing, Refuse, Ask}
 use Rattle.home.specs.declared.processors.Processors.{Processors}
 use Rattle.home.specs.declared.request.Request.{Request}
+use Rattle.message.specs.Reactions.{quiet}
 
 by-plan : (P : Reaction (Home ℕ) → Type 0) (h : Home ℕ) (b : ℕ) (r : Request) (p : Plan)
     → P (refused h b r) → ((s : Processors) → P (asked h b r s)) → found (planned h b r p) P

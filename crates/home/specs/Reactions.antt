@@ -6,7 +6,7 @@ use lib.Dec.{eqb, ltb}
 use Rattle.message.specs.Kinds.{same-kind}
 use Rattle.message.specs.Messages.{plain}
 use Rattle.message.specs.Nodes.{home-node, is-device}
-use Rattle.message.specs.Reactions.{silent, single}
+use Rattle.message.specs.Reactions.{quiet, single}
 use Rattle.message.specs.declared.kind.Kind.{Kind}
 use Rattle.message.specs.declared.kind.Kind.the-variants.{Wblk, Ack, Nack, Taken}
 use Rattle.message.specs.declared.message.Message.{Message}
@@ -33,9 +33,6 @@ use Rattle.home.specs.declared.plan.Plan.{Plan}
 use Rattle.home.specs.declared.plan.Plan.the-variants.{Nothing, Refuse, Ask}
 use Rattle.home.specs.declared.processors.Processors.{Processors}
 use Rattle.home.specs.declared.request.Request.{Request}
-
-abbrev pub quiet : Home ℕ → Reaction (Home ℕ)
-quiet h = record { next = h; sent = silent; entry = None; answer = None }
 
 -- To finish, a home passes once the greatest clock that it heard and, for a device, the request's; then it does the
 -- device's operation.

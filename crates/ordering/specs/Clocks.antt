@@ -1,6 +1,8 @@
 -- Clocks: passing a number, counting an operation, and the end of numbers.
 use mathlib.Core.Bool.{Bool, cond, _&&_}
-use Prim.Native.Nat.{ℕ, _+_, max}
+use mathlib.Core.Logic.{_⊎_}
+use mathlib.Core.Path.{_≡_}
+use Prim.Native.Nat.{ℕ, _+_, _<_, max}
 use lib.Dec.{leb}
 use Rattle.std.specs.declared.option.Option.{Option}
 use Rattle.std.specs.declared.option.Option.the-variants.{Some, None}
@@ -23,3 +25,7 @@ is-within c = leb (c .global) number-end && leb (c .local) number-end
 
 abbrev pub settled : Clock ℕ → Option (Clock ℕ)
 settled c = cond (is-within c) (Some c) None
+
+-- By global number, then local number.
+abbrev pub Earlier : Clock ℕ → Clock ℕ → Type 0
+Earlier c d = (c .global < d .global) ⊎ ((c .global ≡ d .global) × (c .local < d .local))

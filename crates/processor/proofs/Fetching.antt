@@ -10,9 +10,9 @@ use Rattle.processor.proofs.Tables.{put-read}
 use Rattle.processor.specs.Inputs.{Load, Store, Request, Ldio, Stio, Collect, Give-up, Poll, Receive}
 use Rattle.processor.specs.Laws.{Abandoned-stays, Given-up-slots-stay-taken, Own-operations-wait, Four-words, Told-words-are-true}
 use Rattle.processor.specs.Lines.{line-at, held-words, block-of, word-of, with-word}
-use Rattle.processor.specs.Receive.{first-word}
 use Rattle.processor.specs.declared.slot.Slot.the-variants.{Free, Came}
 use Rattle.processor.specs.declared.state.Processor.{Processor}
+use Rattle.ordering.specs.Words.{first-word}
 
 stays : Abandoned-stays
 stays s n (Load w) r h d e k = grind (arith, tells)

@@ -22,7 +22,7 @@ use Rattle.message.specs.declared.kind.Kind.the-variants.{Gets, Getx, Upg, Wb, 
 use Rattle.message.specs.declared.message.Message.{Message}
 use Rattle.message.specs.declared.reaction.Reaction.{Reaction}
 use Rattle.processor.specs.Lines.{line-at, held-words, owned-words, block-of, word-of, with-word}
-use Rattle.processor.specs.Reacting.{telling, quiet, sending, doing}
+use Rattle.message.specs.Reactions.{telling, quiet, sending, doing}
 use Rattle.processor.specs.Slots.{slot-at, is-free, awaited-device}
 use Rattle.processor.specs.States.{at-clock, at-line, at-request, at-slot, at-register, numbered}
 use Rattle.processor.specs.declared.line.Line.{Line}

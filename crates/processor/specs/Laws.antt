@@ -23,21 +23,19 @@ use Rattle.message.specs.declared.reaction.Reaction.{Reaction}
 use Rattle.processor.specs.Calls.{load, store, ldio, collect, poll}
 use Rattle.processor.specs.Inputs.{Input, reaction, message-of, stored-word}
 use Rattle.processor.specs.Lines.{line-at, held-words, block-of}
-use Rattle.processor.specs.Receive.{receive, first-word}
+use Rattle.processor.specs.Receive.{receive}
 use Rattle.processor.specs.Slots.{slot-at, is-awaited}
 use Rattle.processor.specs.States.{made}
 use Rattle.processor.specs.declared.line.Line.the-variants.{Invalid, Shared}
 use Rattle.processor.specs.declared.refusal.Refusal.the-variants.{SlotTaken}
 use Rattle.processor.specs.declared.slot.Slot.the-variants.{Abandoned}
 use Rattle.processor.specs.declared.state.Processor.{Processor}
+use Rattle.ordering.specs.Clocks.{Earlier}
+use Rattle.ordering.specs.Words.{first-word}
 
 -- A law about every reaction: the state before, the processor's number, what came, and the reaction.
 abbrev pub Each-reaction : (Processor ℕ → ℕ → Input → Reaction (Processor ℕ) → Type 0) → Type 0
 Each-reaction Holds = (s : Processor ℕ) (n : ℕ) (i : Input) (r : Reaction (Processor ℕ)) → reaction s n i ≡ Some r → Holds s n i r
-
--- By global number, then local number.
-abbrev pub Earlier : Clock ℕ → Clock ℕ → Type 0
-Earlier c d = (c .global < d .global) ⊎ ((c .global ≡ d .global) × (c .local < d .local))
 
 -- Kinds whose clock a processor passes.
 abbrev pub tells-time : Kind → Bool

@@ -3,7 +3,6 @@ pub mod Cases
 pub mod Inputs
 pub mod Laws
 pub mod Lines
-pub mod Reacting
 pub mod Receive
 pub mod Refusals
 pub mod Slots

@@ -7,7 +7,7 @@ use Rattle.std.specs.declared.option.Option.{Option}
 use Rattle.std.specs.declared.option.Option.the-variants.{Some, None}
 use Rattle.ordering.specs.Clocks.{passed, counted}
 use Rattle.ordering.specs.Stamps.{stamped}
-use Rattle.ordering.specs.Words.{one-word, no-words}
+use Rattle.ordering.specs.Words.{one-word, no-words, first-word}
 use Rattle.ordering.specs.declared.operation.Operation.the-variants as operation
 use Rattle.ordering.specs.declared.operation.Words.{Words}
 use Rattle.trail.specs.declared.entry.Entry.{Entry}
@@ -20,7 +20,7 @@ use Rattle.message.specs.declared.message.Message.{Message}
 use Rattle.message.specs.declared.node.Node.the-variants as node
 use Rattle.message.specs.declared.reaction.Reaction.{Reaction}
 use Rattle.processor.specs.Lines.{line-at}
-use Rattle.processor.specs.Reacting.{quiet, sending, doing}
+use Rattle.message.specs.Reactions.{quiet, sending, doing}
 use Rattle.processor.specs.Slots.{slot-at}
 use Rattle.processor.specs.States.{at-clock, at-line, at-request, at-slot, at-register}
 use Rattle.processor.specs.declared.line.Line.{Line}
@@ -140,9 +140,6 @@ fetched-from s sender v c =
       | node.Device d ↦ fetched s d v c
       | node.Home b ↦ None
     ]
-
-abbrev pub first-word : Words → ℕ
-first-word ws = getD (ws .at) 0 0
 
 -- The rules by kind. Requests, ACK, TAKEN and what goes to devices are not for a processor.
 abbrev pub receive-kind : Kind → Processor ℕ → ℕ → Message ℕ → Outcome

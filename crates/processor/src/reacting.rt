@@ -1,7 +1,7 @@
 //! What a processor's reaction may be: quiet, telling a word, sending one message, or doing an operation.
 
 ghost use mathlib.Core.Path.{_≡_};
-ghost use Rattle.processor.specs.Reacting.{telling, quiet, sending, doing};
+ghost use Rattle.message.specs.Reactions.{telling, quiet, sending, doing};
 use crate::state::Processor;
 use message::message::Message;
 use message::reaction::Outbox;

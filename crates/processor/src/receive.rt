@@ -2,7 +2,8 @@
 //! kind leaves empty, and who may send it, are not looked at here. `node` is the processor's own number.
 
 ghost use mathlib.Core.Path.{_≡_};
-ghost use Rattle.processor.specs.Receive.{giving-way, invalidated, downgraded, taking-line, taking, shared, owned, granted, done, nacked, interrupt-entry, interrupted, fetched, fetched-from, first-word, receive};
+ghost use Rattle.ordering.specs.Words.{first-word};
+ghost use Rattle.processor.specs.Receive.{giving-way, invalidated, downgraded, taking-line, taking, shared, owned, granted, done, nacked, interrupt-entry, interrupted, fetched, fetched-from, receive};
 use crate::line::Line;
 use crate::slot::Slot;
 use crate::state::Processor;
