@@ -169,11 +169,11 @@ impl<D: Device> Bridge<D> {
             }
             Deed::Read(access) => self.read(number, access),
             Deed::Write(access, word) => self.write(number, access, word),
-            Deed::Land(home, block, words) => {
+            Deed::Land { home, block, words } => {
                 self.device.landed(block, words);
                 self.end(number, home, block)
             }
-            Deed::Finish(home, block) => self.end(number, home, block),
+            Deed::Finish { home, block } => self.end(number, home, block),
             Deed::Resend(message) => Outcome::sending(message),
         }
     }

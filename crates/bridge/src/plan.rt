@@ -32,9 +32,9 @@ pub enum Deed {
     /// A processor's STio, which Wio asks for.
     Write(WordAccess, u32),
     /// The words of a block came from its home.
-    Land(u32, u32, Words),
+    Land { home: u32, block: u32, words: Words },
     /// The home stored a block.
-    Finish(u32, u32),
+    Finish { home: u32, block: u32 },
     /// A refused request goes out again.
     Resend(Message),
 }

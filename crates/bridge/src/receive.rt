@@ -82,13 +82,12 @@ impl<D: Device> Bridge<D> {
         let word = message.words.at[0];
         let home = message.sender;
         let block = message.place;
+        let words = message.words;
         match message.kind {
             Kind::Rio => self.asked(message, Deed::Read(access)),
             Kind::Wio => self.asked(message, Deed::Write(access, word)),
-            Kind::Done => self.replied(message, Kind::Wblk, Deed::Finish(home, block)),
-            Kind::Words => {
-                self.replied(message, Kind::Rblk, Deed::Land(home, block, message.words))
-            }
+            Kind::Done => self.replied(message, Kind::Wblk, Deed::Finish { home, block }),
+            Kind::Words => self.replied(message, Kind::Rblk, Deed::Land { home, block, words }),
             Kind::Nack => self.refused(number, message),
             _ => None,
         }
