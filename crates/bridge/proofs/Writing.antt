@@ -1,10 +1,10 @@
--- Only an STio writes a word of the device, and a deed tells beforehand what it will do.
+-- Only an STio writes a word of the device, and what is performed is what was planned.
 use mathlib.Core.Path.{_≡_, refl}
 use Prim.Native.Nat.{ℕ}
 use native.Mathlib.Omega.{arith}
 use Rattle.std.proofs.shelf.Ways.{tells}
 use Rattle.device.specs.Meaning.{Meaning, Laws}
-use Rattle.bridge.specs.Laws.{Only-stores-write, Deeds-are-foretold}
+use Rattle.bridge.specs.Laws.{Only-stores-write, Plans-are-kept}
 use Rattle.bridge.specs.declared.state.Bridge.{Bridge}
 
 module _ {S : Type 0} (m : Meaning S) where
@@ -15,8 +15,10 @@ module _ {S : Type 0} (m : Meaning S) where
     places = λ b d i r h e k. grind (arith, tells);
   }
 
-  pub deeds-are-foretold : Deeds-are-foretold m
-  deeds-are-foretold = record {
+  pub plans-are-kept : Plans-are-kept m
+  plans-are-kept = record {
+    clock = λ b d p. grind (arith, tells);
+    sequence = λ b d p. grind (arith, tells);
     messages = λ b d p. grind (arith, tells);
     entries = λ b d p. grind (arith, tells);
     calls = λ b d p. grind (arith, tells);

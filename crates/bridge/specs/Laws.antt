@@ -164,8 +164,11 @@ calls-of m s (Land h k ws) = lands k ws ∷ []
 calls-of m s (Finish h k) = []
 calls-of m s (Resend x) = []
 
--- A deed tells beforehand how many messages it will send and whether it will do an operation.
-pub record Deeds-are-foretold {S : Type 0} (m : Meaning S) : Type 0 where
+-- A plan tells beforehand the numbers that the bridge will have, how many messages it will send, whether it will do
+-- an operation, and what will be done to the device.
+pub record Plans-are-kept {S : Type 0} (m : Meaning S) : Type 0 where
+  pub clock : (b : Bridge S ℕ) (d : ℕ) (p : Plan ℕ) → performed m d b p .next .clock ≡ p .clock
+  pub sequence : (b : Bridge S ℕ) (d : ℕ) (p : Plan ℕ) → performed m d b p .next .sequence ≡ p .sequence
   pub messages : (b : Bridge S ℕ) (d : ℕ) (p : Plan ℕ) → sent-count (performed m d b p .sent) ≡ sends (p .deed)
   pub entries : (b : Bridge S ℕ) (d : ℕ) (p : Plan ℕ) → isSome (performed m d b p .entry) ≡ enters (p .deed)
   pub calls : (b : Bridge S ℕ) (d : ℕ) (p : Plan ℕ) → performed m d b p .next .device ≡ after m (b .device) (calls-of m (b .device) (p .deed))

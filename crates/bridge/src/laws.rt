@@ -1,6 +1,6 @@
 //! What holds of every reaction of a bridge, whatever its state, its device and what came.
 
-ghost use Rattle.bridge.specs.Laws.{Clocks-go-on, Entries-are-stamped, Only-stores-write, Values-are-entered, Refused-requests-go-out-again, Requests-are-for-blocks, Interrupts-wait, Wishes-are-judged, Bridges-keep-to-their-part, Deeds-are-foretold};
+ghost use Rattle.bridge.specs.Laws.{Clocks-go-on, Entries-are-stamped, Only-stores-write, Values-are-entered, Refused-requests-go-out-again, Requests-are-for-blocks, Interrupts-wait, Wishes-are-judged, Bridges-keep-to-their-part, Plans-are-kept};
 use device::meaning::Device;
 
 /// No reaction takes the clock back, and one that does an operation takes it on; after a message whose
@@ -49,7 +49,8 @@ pub fn bridges_keep_to_their_part<D: Device>()
     ensures { λ _. ⌜ Bridges-keep-to-their-part (D·Device .meaning) ⌝ }
 {}
 
-/// A deed tells beforehand what it will send and enter, and which calls its device will get.
-pub fn deeds_are_foretold<D: Device>()
-    ensures { λ _. ⌜ Deeds-are-foretold (D·Device .meaning) ⌝ }
+/// What a plan says is what is performed: the new numbers, how many messages, whether an operation, and the
+/// calls that the device gets.
+pub fn plans_are_kept<D: Device>()
+    ensures { λ _. ⌜ Plans-are-kept (D·Device .meaning) ⌝ }
 {}
