@@ -1,11 +1,8 @@
 -- Only an STio writes a word of the device, and what is performed is what was planned.
-use mathlib.Core.Path.{_≡_, refl}
-use Prim.Native.Nat.{ℕ}
 use native.Mathlib.Omega.{arith}
 use Rattle.std.proofs.shelf.Ways.{tells}
 use Rattle.device.specs.Meaning.{Meaning, Laws}
 use Rattle.bridge.specs.Laws.{Only-stores-write, Plans-are-kept}
-use Rattle.bridge.specs.declared.state.Bridge.{Bridge}
 
 module _ {S : Type 0} (m : Meaning S) where
   pub only-stores-write : Laws m → Only-stores-write m

@@ -1,9 +1,8 @@
 -- What a bridge does: the device's new state, what it sends, and the operation that it does. The bridge b has its
 -- new clock already.
-use mathlib.Core.Bool.{Bool, true, false}
+use mathlib.Core.Bool.{false}
 use Prim.Native.Nat.{ℕ, _+_}
 use lib.ListN.{getD}
-use Rattle.std.specs.declared.option.Option.{Option}
 use Rattle.std.specs.declared.option.Option.the-variants.{Some, None}
 use Rattle.ordering.specs.Stamps.{stamped}
 use Rattle.ordering.specs.Words.{one-word}

@@ -1,14 +1,14 @@
 -- What holds of every reaction of a bridge, in every state and around every device.
 use mathlib.Core.Bool.{Bool, true, false, cond, _||_}
 use mathlib.Core.List.{List, [], _∷_}
-use mathlib.Core.Logic.{_⊎_, _≢_}
+use mathlib.Core.Logic.{_⊎_}
 use mathlib.Core.Path.{_≡_}
 use Prim.Native.Nat.{ℕ, _+_, _≤_, _<_}
 use lib.ListN.{length, getD, set}
 use Rattle.std.specs.Options.{isSome}
 use Rattle.std.specs.declared.option.Option.{Option}
 use Rattle.std.specs.declared.option.Option.the-variants.{Some, None}
-use Rattle.std.specs.declared.result.Result.the-variants.{Ok, Err}
+use Rattle.std.specs.declared.result.Result.the-variants.{Err}
 use Rattle.ordering.specs.Operations.{is}
 use Rattle.ordering.specs.Stamps.{stamped}
 use Rattle.ordering.specs.Words.{one-word, first-word}
@@ -30,7 +30,7 @@ use Rattle.message.specs.declared.reaction.Reaction.{Reaction}
 use Rattle.bridge.specs.Acts.{any-out}
 use Rattle.bridge.specs.Deeds.{performed}
 use Rattle.bridge.specs.Faults.{fault-place}
-use Rattle.bridge.specs.Inputs.{Input, Each-reaction, message-of}
+use Rattle.bridge.specs.Inputs.{Each-reaction, message-of}
 use Rattle.bridge.specs.Plans.{sends, enters}
 use Rattle.bridge.specs.Reactions.{act, receive}
 use Rattle.bridge.specs.States.{made}

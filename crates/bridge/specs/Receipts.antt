@@ -1,6 +1,6 @@
 -- What a bridge decides to do when a message reaches it, or none where there is no rule. The fields that a kind
 -- leaves empty, and who may send it, are not looked at here.
-use mathlib.Core.Bool.{Bool, true, false, cond}
+use mathlib.Core.Bool.{false, cond}
 use Prim.Native.Nat.{ℕ}
 use lib.Dec.{ltb}
 use Rattle.std.specs.declared.option.Option.{Option}

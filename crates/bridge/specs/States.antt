@@ -2,7 +2,7 @@
 use Prim.Native.Nat.{ℕ}
 use lib.ListN.{replicate}
 use Rattle.std.specs.declared.option.Option.{Option}
-use Rattle.std.specs.declared.option.Option.the-variants.{Some, None}
+use Rattle.std.specs.declared.option.Option.the-variants.{None}
 use Rattle.ordering.specs.declared.clock.Clock.{Clock}
 use Rattle.message.specs.Requests.{with-out}
 use Rattle.message.specs.declared.kind.Kind.{Kind}

@@ -2,7 +2,7 @@
 
 ghost use mathlib.Core.Path.{_≡_};
 ghost use lib.ListN.{getD};
-ghost use Rattle.device.specs.Meaning.{read-exit, write-exit};
+ghost use Rattle.device.specs.Meaning.{read-exit};
 ghost use Rattle.bridge.specs.Deeds.{access-entry, sends-only, does-only, outcome-of, loaded, stored, accepted, answered, written, ended, performed};
 ghost use Rattle.bridge.specs.States.{view};
 use crate::plan::Deed;
