@@ -7,3 +7,4 @@ pub mod Rising
 pub mod Running
 pub mod Stepping
 pub mod Timing
+pub mod Tally
