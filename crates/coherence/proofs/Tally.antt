@@ -19,7 +19,7 @@ use Rattle.message.specs.declared.kind.Kind.the-variants.{Ack, Nack}
 use Rattle.message.specs.declared.message.Message.{Message}
 use Rattle.std.proofs.shelf.Elements.{all-append, all-take, all-drop}
 use Rattle.std.proofs.shelf.Lists.{append-nil, at-drop-more, take-append-drop}
-use Rattle.std.proofs.shelf.Tests.{cond-false}
+use Rattle.std.proofs.shelf.Tests.{and-from, eq-eqb, eqb-true}
 use Rattle.std.specs.declared.option.Option.{Option}
 use Rattle.std.specs.declared.option.Option.the-variants.{Some, None}
 use Rattle.std.specs.shelf.Lists.{All}
@@ -139,3 +139,42 @@ pub tally-out : (ms : List (Message ℕ)) (i : ℕ) → i < length ms → (b s r
     → tally (removed ms i) c b s r + indicator (hits c b s r (getD ms i no-message)) ≡ tally ms c b s r
 unfolding tally
 tally-out ms i within b s r c = count-removed (hits c b s r) ms i no-message within
+
+-- the same with what is known of the message: class a, about place p, from t to q
+module _ (a p t q : ℕ) where
+  abbrev pub Is : Message ℕ → Type 0
+  Is m = (class-of m ≡ a) × (m .place ≡ p) × (m .sender ≡ t) × (m .receiver ≡ q)
+
+  known : (m : Message ℕ) → Is m → (b s r c : ℕ) → hits c b s r m ≡ (eqb a c && (eqb p b && (eqb t s && eqb q r)))
+  known m is b s r c = rw (is .0, is .1, is .2, is .3) refl
+
+  pub tally-in-as : (ms : List (Message ℕ)) (m : Message ℕ) → Is m → (b s r c : ℕ)
+      → tally (ms ++ m ∷ []) c b s r ≡ tally ms c b s r + indicator (eqb a c && (eqb p b && (eqb t s && eqb q r)))
+  tally-in-as ms m is b s r c = tally-in ms m b s r c ∙ ap (λ h. tally ms c b s r + indicator h) (known m is b s r c)
+
+  pub tally-out-as : (ms : List (Message ℕ)) (i : ℕ) → i < length ms → Is (getD ms i no-message) → (b s r c : ℕ)
+      → tally (removed ms i) c b s r + indicator (eqb a c && (eqb p b && (eqb t s && eqb q r))) ≡ tally ms c b s r
+  tally-out-as ms i within is b s r c =
+      ap (λ h. tally (removed ms i) c b s r + indicator h) (sym (known (getD ms i no-message) is b s r c)) ∙ tally-out ms i within b s r c
+
+  -- a message that waits is counted
+  pub tally-there : (ms : List (Message ℕ)) (i : ℕ) → i < length ms → Is (getD ms i no-message) → 1 ≤ tally ms a p t q
+  tally-there ms i within is =
+      let out = tally-out-as ms i within is p t q a in
+      let self = ap indicator (and-from _ _ (eq-eqb a a refl) (and-from _ _ (eq-eqb p p refl) (and-from _ _ (eq-eqb t t refl) (eq-eqb q q refl)))) in
+      omega arith
+
+-- where none is counted none waits
+pub none-waits : (ms : List (Message ℕ)) (b s r c : ℕ) → tally ms c b s r ≡ 0 → All (λ m. hits c b s r m ≡ false) ms
+unfolding tally
+none-waits ms b s r c none = none-passes (hits c b s r) ms none
+
+-- the class of a message whose other fields are 0
+pub class-plain : (k : Kind) → class-by k false None ≡ kind-number k
+class-plain k = go (same-kind k Ack) (same-kind k Nack) refl refl
+  where
+    go : (x y : Bool) → same-kind k Ack ≡ x → same-kind k Nack ≡ y
+        → cond x (kind-number Ack) (cond y (kind-number Nack) (kind-number k)) ≡ kind-number k
+    go true y h i = sym (eqb-true (kind-number k) (kind-number Ack) h)
+    go false true h i = sym (eqb-true (kind-number k) (kind-number Nack) i)
+    go false false h i = refl
