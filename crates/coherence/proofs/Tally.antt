@@ -1,6 +1,7 @@
 -- How many messages wait, by what they are, which place they are about, and who sent them to whom.
 use mathlib.Core.Bool.{Bool, true, false, _&&_, cond}
 use mathlib.Core.List.{List, [], _∷_, _++_}
+use mathlib.Core.Logic.{⊎-elim}
 use mathlib.Core.Path.{_≡_, refl, sym, ap, _∙_}
 use Prim.Native.Nat.{ℕ, zero, suc, _+_, _<_, _≤_}
 use native.Mathlib.Omega.{arith}
@@ -18,8 +19,8 @@ use Rattle.message.specs.declared.kind.Kind.{Kind}
 use Rattle.message.specs.declared.kind.Kind.the-variants.{Ack, Nack}
 use Rattle.message.specs.declared.message.Message.{Message}
 use Rattle.std.proofs.shelf.Elements.{all-append, all-take, all-drop}
-use Rattle.std.proofs.shelf.Lists.{append-nil, at-drop-more, take-append-drop}
-use Rattle.std.proofs.shelf.Tests.{and-from, eq-eqb, eqb-true}
+use Rattle.std.proofs.shelf.Lists.{append-nil, at-drop-more, getD-past, take-append-drop}
+use Rattle.std.proofs.shelf.Tests.{and-from, and-right, cases-lt, eq-eqb, eqb-true, ne-eqb}
 use Rattle.std.specs.declared.option.Option.{Option}
 use Rattle.std.specs.declared.option.Option.the-variants.{Some, None}
 use Rattle.std.specs.shelf.Lists.{All}
@@ -128,6 +129,10 @@ tally-empty b s r c = count-none (hits c b s r)
 pub tally-none : (ms : List (Message ℕ)) (b s r c : ℕ) → tally (ms ++ []) c b s r ≡ tally ms c b s r
 tally-none ms b s r c = ap (λ ns. tally ns c b s r) (append-nil ms)
 
+pub tally-append : (ms ns : List (Message ℕ)) (b s r c : ℕ) → tally (ms ++ ns) c b s r ≡ tally ms c b s r + tally ns c b s r
+unfolding tally
+tally-append ms ns b s r c = count-append (hits c b s r) ms ns
+
 -- one message in
 pub tally-in : (ms : List (Message ℕ)) (m : Message ℕ) (b s r c : ℕ)
     → tally (ms ++ m ∷ []) c b s r ≡ tally ms c b s r + indicator (hits c b s r m)
@@ -178,3 +183,77 @@ class-plain k = go (same-kind k Ack) (same-kind k Nack) refl refl
     go true y h i = sym (eqb-true (kind-number k) (kind-number Ack) h)
     go false true h i = sym (eqb-true (kind-number k) (kind-number Nack) i)
     go false false h i = refl
+
+-- one place of an outbox, full where t holds
+count-gathered : (f : Message ℕ → Bool) (t : Bool) (m : Message ℕ) (os : List (Option (Message ℕ)))
+    → count f (gathered (cond t (Some m) None ∷ os)) ≡ indicator (t && f m) + count f (gathered os)
+count-gathered f true m os = count-cons f m (gathered os)
+count-gathered f false m os = omega arith
+
+-- A home's INV or DOWN to each of a set is one message to each member; x, y and z say whether class, place and sender agree.
+missed : (t x y z e : Bool) → e ≡ false → indicator (t && (x && (y && (z && e)))) ≡ 0
+missed t x y z e is = ap indicator (and-right t _ (and-right x _ (and-right y _ (and-right z e is))))
+
+met : (t x y z : Bool) → indicator (t && (x && (y && (z && true)))) ≡ indicator (x && (y && (z && t)))
+met t true true true = go t
+  where
+    go : (t : Bool) → indicator (t && true) ≡ indicator t
+    go true = refl
+    go false = refl
+met t false y z = missed t true true false false refl
+met t true false z = missed t true true false false refl
+met t true true false = missed t true true false false refl
+
+module _ (k : Kind) (b : ℕ) (set : Processors) (place s : ℕ) where
+  abbrev asked-hit : ℕ → ℕ → ℕ → ℕ
+  asked-hit c q p = indicator (has set p && (eqb (class-by k false None) c && (eqb b place && (eqb (home-node b) s && eqb p q))))
+
+  asked-sum : (q c : ℕ) → tally (sent (asks k b set)) c place s q ≡ asked-hit c q 0 + (asked-hit c q 1 + (asked-hit c q 2 + asked-hit c q 3))
+  unfolding tally
+  asked-sum q c =
+      let f = hits c place s q in
+      let one = λ (p : ℕ) (os : List (Option (Message ℕ))). count-gathered f (has set p) (plain k (home-node b) p b) os in
+      let e = count-none f in
+      let g3 = one 3 [] in
+      let g2 = one 2 (ask-one k b set 3 ∷ []) in
+      let g1 = one 1 (ask-one k b set 2 ∷ (ask-one k b set 3 ∷ [])) in
+      let g0 = one 0 (ask-one k b set 1 ∷ (ask-one k b set 2 ∷ (ask-one k b set 3 ∷ []))) in
+      omega arith
+
+  asked-other : (c q p : ℕ) → (p ≡ q → ⊥) → asked-hit c q p ≡ 0
+  asked-other c q p apart =
+      missed (has set p) (eqb (class-by k false None) c) (eqb b place) (eqb (home-node b) s) (eqb p q) (ne-eqb p q apart)
+
+  -- what the messages of the set add for receiver q
+  abbrev pub asked-gain : ℕ → ℕ → ℕ
+  asked-gain c q = indicator (eqb (kind-number k) c && (eqb b place && (eqb (home-node b) s && has set q)))
+
+  asked-same : (c q p : ℕ) → p ≡ q → asked-hit c q p ≡ asked-gain c q
+  asked-same c q p same =
+      rw (same, eq-eqb q q refl, class-plain k) (met (has set q) (eqb (kind-number k) c) (eqb b place) (eqb (home-node b) s))
+
+  one-asked : (c q : ℕ) → q < 4 → asked-hit c q 0 + (asked-hit c q 1 + (asked-hit c q 2 + asked-hit c q 3)) ≡ asked-gain c q
+  one-asked c zero small = omega (arith, asked-same c 0 0 refl, asked-other c 0)
+  one-asked c (suc zero) small = omega (arith, asked-same c 1 1 refl, asked-other c 1)
+  one-asked c (suc (suc zero)) small = omega (arith, asked-same c 2 2 refl, asked-other c 2)
+  one-asked c (suc (suc (suc zero))) small = omega (arith, asked-same c 3 3 refl, asked-other c 3)
+  one-asked c (suc (suc (suc (suc q)))) small = absurd (omega arith)
+
+  pub tally-asks : (ms : List (Message ℕ)) (q : ℕ) → q < 4 → (c : ℕ)
+      → tally (ms ++ sent (asks k b set)) c place s q ≡ tally ms c place s q + asked-gain c q
+  tally-asks ms q small c = omega (arith, tally-append ms (sent (asks k b set)) place s q c, asked-sum q c, one-asked c q small)
+
+  pub tally-asks-past : (ms : List (Message ℕ)) (q : ℕ) → 4 ≤ q → (c : ℕ)
+      → tally (ms ++ sent (asks k b set)) c place s q ≡ tally ms c place s q
+  tally-asks-past ms q large c = omega (arith, tally-append ms (sent (asks k b set)) place s q c, asked-sum q c, asked-other c q)
+
+  -- a set of four bits has no member past them
+  pub tally-asks-all : length (set .at) ≡ 4 → (ms : List (Message ℕ)) (q c : ℕ)
+      → tally (ms ++ sent (asks k b set)) c place s q ≡ tally ms c place s q + asked-gain c q
+  tally-asks-all four ms q c = ⊎-elim (λ small. tally-asks ms q small c) past (cases-lt q 4)
+    where
+      past : 4 ≤ q → tally (ms ++ sent (asks k b set)) c place s q ≡ tally ms c place s q + asked-gain c q
+      past large =
+          let out = getD-past (set .at) q false (omega arith) in
+          let none : asked-gain c q ≡ 0 = missed true (eqb (kind-number k) c) (eqb b place) (eqb (home-node b) s) (has set q) out in
+          omega (arith, tally-asks-past ms q large c)
