@@ -2,6 +2,7 @@ pub mod Arising
 pub mod Clocks
 pub mod Dating
 pub mod HomeClocks
+pub mod Counting
 pub mod Reading
 pub mod Rising
 pub mod Running
