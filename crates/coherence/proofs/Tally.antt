@@ -200,3 +200,39 @@ module _ (k : Kind) (b : ℕ) (set : Processors) where
   tally-asks-all four ms place s q c =
       let f = hits c place s q in
       count-append f ms (sent (asks k b set)) ∙ ap (λ n. count f ms + n) (asks-all k b set f _ q (takes-as place s q c) four)
+
+-- how many of class c go from s to r, whatever place they are about
+abbrev pub crosses : ℕ → ℕ → ℕ → Message ℕ → Bool
+crosses c s r m = (eqb (class-of m) c && eqb (m .sender) s) && eqb (m .receiver) r
+
+pub traffic : List (Message ℕ) → ℕ → ℕ → ℕ → ℕ
+traffic ms c s r = count (crosses c s r) ms
+
+pub traffic-empty : (s r c : ℕ) → traffic [] c s r ≡ 0
+unfolding traffic
+traffic-empty s r c = count-none (crosses c s r)
+
+pub traffic-none : (ms : List (Message ℕ)) (s r c : ℕ) → traffic (ms ++ []) c s r ≡ traffic ms c s r
+traffic-none ms s r c = ap (λ ns. traffic ns c s r) (append-nil ms)
+
+pub traffic-in : (ms : List (Message ℕ)) (m : Message ℕ) (s r c : ℕ)
+    → traffic (ms ++ m ∷ []) c s r ≡ traffic ms c s r + indicator (crosses c s r m)
+unfolding traffic
+traffic-in ms m s r c = count-push (crosses c s r) ms m
+
+pub traffic-out : (ms : List (Message ℕ)) (i : ℕ) → i < length ms → (s r c : ℕ)
+    → traffic (removed ms i) c s r + indicator (crosses c s r (getD ms i no-message)) ≡ traffic ms c s r
+unfolding traffic
+traffic-out ms i within s r c = count-removed (crosses c s r) ms i no-message within
+
+pub traffic-out-as : (a t q : ℕ) (ms : List (Message ℕ)) (i : ℕ) → i < length ms → class-of (getD ms i no-message) ≡ a
+    → getD ms i no-message .sender ≡ t → getD ms i no-message .receiver ≡ q → (s r c : ℕ)
+    → traffic (removed ms i) c s r + indicator ((eqb a c && eqb t s) && eqb q r) ≡ traffic ms c s r
+traffic-out-as a t q ms i within is from to s r c = rw (← is, ← from, ← to) (traffic-out ms i within s r c)
+
+pub traffic-asks : (k : Kind) (b : ℕ) (set : Processors) → length (set .at) ≡ 4 → (ms : List (Message ℕ)) (s q c : ℕ)
+    → traffic (ms ++ sent (asks k b set)) c s q ≡ traffic ms c s q + indicator ((eqb (kind-number k) c && eqb (home-node b) s) && has set q)
+unfolding traffic
+traffic-asks k b set four ms s q c =
+    let f = crosses c s q in
+    count-append f ms (sent (asks k b set)) ∙ ap (λ n. count f ms + n) (asks-all k b set f _ q (λ p. rw (class-plain k) refl) four)
