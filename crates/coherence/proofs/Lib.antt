@@ -1,4 +1,5 @@
 pub mod Arising
+pub mod Classes
 pub mod Clocks
 pub mod Dating
 pub mod HomeClocks

@@ -11,36 +11,19 @@ use Rattle.home.specs.Reactions.{ask-one, asks}
 use Rattle.home.specs.Sets.{has}
 use Rattle.home.specs.declared.processors.Processors.{Processors}
 use Rattle.list.specs.Contents.{removed}
-use Rattle.message.specs.Kinds.{kind-number, same-kind}
+use Rattle.message.specs.Kinds.{kind-number}
 use Rattle.message.specs.Messages.{no-message, plain}
 use Rattle.message.specs.Nodes.{home-node}
 use Rattle.message.specs.Reactions.{gathered, sent}
 use Rattle.message.specs.declared.kind.Kind.{Kind}
-use Rattle.message.specs.declared.kind.Kind.the-variants.{Ack, Nack}
 use Rattle.message.specs.declared.message.Message.{Message}
 use Rattle.std.proofs.shelf.Lists.{append-nil, getD-past}
-use Rattle.std.proofs.shelf.Tests.{and-from, and-right, cases-lt, eq-eqb, eqb-true, ne-eqb}
+use Rattle.std.proofs.shelf.Tests.{and-from, and-right, cases-lt, eq-eqb, ne-eqb}
 use Rattle.std.specs.declared.option.Option.{Option}
 use Rattle.std.specs.declared.option.Option.the-variants.{Some, None}
 use Rattle.std.specs.shelf.Lists.{All}
+use Rattle.coherence.proofs.Classes.{class-of, class-plain}
 use Rattle.coherence.proofs.Counting.{indicator, count, count-none, count-cons, count-append, count-push, count-removed, none-passes}
-
--- A message's class is the number of its kind; but a NACK's is 20 more than that of the kind it refuses, and an ACK
--- under the exclusive mark has one of its own.
-abbrev pub refusal-of : Kind → ℕ
-refusal-of k = 20 + kind-number k
-
-abbrev pub marked-ack : ℕ
-marked-ack = 41
-
-abbrev pub class-by : Kind → Bool → Option Kind → ℕ
-class-by k mark refused =
-    cond (same-kind k Ack) (cond mark marked-ack (kind-number Ack))
-    (cond (same-kind k Nack) (elim refused [ None ↦ kind-number Nack | Some j ↦ refusal-of j ])
-    (kind-number k))
-
-abbrev pub class-of : Message ℕ → ℕ
-class-of m = class-by (m .kind) (m .exclusive) (m .refused)
 
 -- A message is of class c, about place b, from s to r.
 abbrev pub hits : ℕ → ℕ → ℕ → ℕ → Message ℕ → Bool
@@ -103,16 +86,6 @@ module _ (a p t q : ℕ) where
       let self = λ (x : ℕ). eq-eqb x x refl in
       let whole = ap indicator (and-from _ _ (and-from _ _ (and-from _ _ (self a) (self p)) (self t)) (self q)) in
       omega arith
-
--- the class of a message whose other fields are 0
-pub class-plain : (k : Kind) → class-by k false None ≡ kind-number k
-class-plain k = go (same-kind k Ack) (same-kind k Nack) refl refl
-  where
-    go : (x y : Bool) → same-kind k Ack ≡ x → same-kind k Nack ≡ y
-        → cond x (kind-number Ack) (cond y (kind-number Nack) (kind-number k)) ≡ kind-number k
-    go true y h i = sym (eqb-true (kind-number k) (kind-number Ack) h)
-    go false true h i = sym (eqb-true (kind-number k) (kind-number Nack) i)
-    go false false h i = refl
 
 -- one place of an outbox, full where t holds
 count-gathered : (f : Message ℕ → Bool) (t : Bool) (m : Message ℕ) (os : List (Option (Message ℕ)))
