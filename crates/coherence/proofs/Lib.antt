@@ -1,12 +1,12 @@
 pub mod Arising
 pub mod Classes
 pub mod Clocks
+pub mod Counting
 pub mod Dating
 pub mod HomeClocks
-pub mod Counting
 pub mod Reading
 pub mod Rising
 pub mod Running
 pub mod Stepping
-pub mod Timing
 pub mod Tally
+pub mod Timing
