@@ -34,33 +34,39 @@ pub record Home-timely (c : Clock ℕ) (b : ℕ) (x : Reaction (Home ℕ)) : Typ
   pub onward : (x .next .clock ≡ c) ⊎ (c .global < x .next .clock .global)
   pub stamps : (e : Entry) → x .entry ≡ Some e → e .stamp ≡ stamped (x .next .clock) (home-node b)
   pub rises : isSome (x .entry) ≡ true → c .global < x .next .clock .global
+  pub space : (e : Entry) → x .entry ≡ Some e → e .space ≡ 0
 
 above : (c : Clock ℕ) (d : Directory) → c .global < clock-after c d .global
 above c d =
     cond-both (isSome (operation-for (d .request .kind))) (counted (passed c (max (d .latest) (d .request .clock)))) (passed c (d .latest))
     (λ (k : Clock ℕ). c .global < k .global) (λ _. omega arith) (λ _. omega arith)
 
-finish-stamped : (b : ℕ) (r : Request) (w : Words) (c : Clock ℕ) (e : Entry) → entry-for b r w c ≡ Some e → e .stamp ≡ stamped c (home-node b)
-finish-stamped b r w c e h = go (operation-for (r .kind)) h
+-- what a home enters is its own operation, on memory
+finish-enters : (b : ℕ) (r : Request) (w : Words) (c : Clock ℕ) (e : Entry) → entry-for b r w c ≡ Some e → (e .stamp ≡ stamped c (home-node b)) × (e .space ≡ 0)
+finish-enters b r w c e h = go (operation-for (r .kind)) h
   where
     go : (o : Option Operation)
         → _≡_ {A = Option Entry} (elim o [
           | None ↦ None
           | Some x ↦ Some (record { party = r .requester; sequence = r .sequence; operation = x; space = 0; place = b; values = w; stamp = stamped c (home-node b) })
-        ]) (Some e) → e .stamp ≡ stamped c (home-node b)
+        ]) (Some e) → (e .stamp ≡ stamped c (home-node b)) × (e .space ≡ 0)
     go None h = never cc
-    go (Some x) h = cc
+    go (Some x) h = (cc, cc)
 
 finishes : (h : Home ℕ) (b : ℕ) → Home-timely (h .clock) b (finished h b)
-finishes h b = record {
-  onward = inr (above (h .clock) (h .directory));
-  stamps = finish-stamped b (h .directory .request) (words-after (h .words) (h .directory .request)) (clock-after (h .clock) (h .directory));
-  rises = λ _. above (h .clock) (h .directory);
-}
+finishes h b =
+    let c = clock-after (h .clock) (h .directory) in
+    let w = words-after (h .words) (h .directory .request) in
+    record {
+      onward = inr (above (h .clock) (h .directory));
+      stamps = λ e is. finish-enters b (h .directory .request) w c e is .0;
+      rises = λ _. above (h .clock) (h .directory);
+      space = λ e is. finish-enters b (h .directory .request) w c e is .1;
+    }
 
 -- nothing is done, and the clock stays or passes
 rests : (c : Clock ℕ) (b : ℕ) (x : Reaction (Home ℕ)) → x .entry ≡ None → (x .next .clock ≡ c) ⊎ (c .global < x .next .clock .global) → Home-timely c b x
-rests c b x is moved = record { onward = moved; stamps = λ e h. never cc; rises = λ h. never (let same : isSome (x .entry) ≡ false = ap isSome is in cc) }
+rests c b x is moved = record { onward = moved; stamps = λ e h. never cc; rises = λ h. never (let same : isSome (x .entry) ≡ false = ap isSome is in cc); space = λ e h. never cc }
 
 freed : (c : Clock ℕ) (n : ℕ) → (clock-freed c n ≡ c) ⊎ (c .global < clock-freed c n .global)
 freed c n =

@@ -3,6 +3,7 @@ pub mod Classes
 pub mod Clocks
 pub mod Counting
 pub mod Dating
+pub mod DeviceWords
 pub mod HomeClocks
 pub mod Reading
 pub mod Rising

@@ -31,6 +31,10 @@ use Rattle.coherence.specs.Steps.{Effect, by-processor, by-home, by-first, by-
 use Rattle.coherence.specs.Worlds.{World, processor-at, home-at, with-home, with-processor}
 use Rattle.ordering.specs.Clocks.{Earlier}
 
+-- what holds of what came
+pub came-so : (o : Option (Reaction (Home ℕ))) (P : Reaction (Home ℕ) → Type 0) (r : Reaction (Home ℕ)) → o ≡ Some r → found o P → P r
+came-so o P r is f = let Q : Option (Reaction (Home ℕ)) → Type 0 = λ x. found x P in subst Q is f
+
 module _ {A B : Type 0} where
   -- from the clock of the node before and after
   from-clocks : (w : World A B) (e : Effect A B) (old new : Clock ℕ) → clock-at w (e .node) ≡ old → clock-at (e .next) (e .node) ≡ new
@@ -58,9 +62,6 @@ module _ {A B : Type 0} where
         (processor.clocks-go-on .never-back s p i r h)
         (processor.entries-are-stamped .stamps s p i r h)
         (processor.clocks-go-on .at-operations s p i r h)
-
-    came-so : (o : Option (Reaction (Home ℕ))) (P : Reaction (Home ℕ) → Type 0) (r : Reaction (Home ℕ)) → o ≡ Some r → found o P → P r
-    came-so o P r is f = let Q : Option (Reaction (Home ℕ)) → Type 0 = λ x. found x P in subst Q is f
 
     by-homes : (b : ℕ) → b < 16 → (m : Message ℕ) (r : Reaction (Home ℕ)) → received (home-at w b) b m ≡ Some r → Timely w (by-home w b r)
     by-homes b small m r h =
