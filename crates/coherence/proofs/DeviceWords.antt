@@ -114,7 +114,7 @@ module _ {A B : Type 0} (ma : Meaning A) (mb : Meaning B) (la : Laws ma) (lb : L
         (record { first = λ n. other 1 n (inl refl) ∙ m .first n; second = λ n. other 2 n (inr refl) ∙ m .second n })
     mirrored-kept e (at-home b small x r h is) =
         let t = came-so (received (home-at w b) b x) (Home-timely (home-at w b .clock) b) r h (home-timely (home-at w b) b x) in
-        let other = by-others (r .entry) (λ y k. inl (t .space y k)) in
+        let other = by-others (r .entry) (λ y k. inl (t .enters y k .space)) in
         subst (λ (x : Effect A B). Mirrored (after w ms x)) (sym is)
         (record { first = λ n. other 1 n (inl refl) ∙ m .first n; second = λ n. other 2 n (inr refl) ∙ m .second n })
     mirrored-kept e (at-first i r h is) =

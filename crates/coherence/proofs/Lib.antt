@@ -8,6 +8,7 @@ pub mod HomeClocks
 pub mod Reading
 pub mod Rising
 pub mod Running
+pub mod Seats
 pub mod Stepping
 pub mod Tally
 pub mod Timing
