@@ -70,11 +70,11 @@ home-node-at n b h = go (ltb n 4) (ltb n 6) (leb 16 n && ltb n 32) refl h
     go false false false small h = never cc
 
 -- what came of something that came
-came : {X Y : Type 0} (f : X → Y) (o : Option X) (y : Y) → mapped f o ≡ Some y → (x : X) × (o ≡ Some x) × (y ≡ f x)
+pub came : {X Y : Type 0} (f : X → Y) (o : Option X) (y : Y) → mapped f o ≡ Some y → (x : X) × (o ≡ Some x) × (y ≡ f x)
 came f None y h = never cc
 came f (Some x) y h = (x, refl, let same : f x ≡ y = cc in sym same)
 
-allowed : {X : Type 0} (b : Bool) (o : Option X) (x : X) → cond b o None ≡ Some x → (b ≡ true) × (o ≡ Some x)
+pub allowed : {X : Type 0} (b : Bool) (o : Option X) (x : X) → cond b o None ≡ Some x → (b ≡ true) × (o ≡ Some x)
 allowed true o x h = (refl, h)
 allowed false o x h = never cc
 
@@ -90,7 +90,7 @@ module _ {A B : Type 0} (ma : Meaning A) (mb : Meaning B) (w : World A B) where
   from-call e p i (Ok r) small is h = at-processor p small i r is (let same : by-processor w p r ≡ e = cc in sym same)
   from-call e p i (Err f) small is h = absurd (let z : _≡_ {A = ℕ} 0 1 = cc in let no-way : ⊥ = omega arith in no-way)
 
-  abbrev reacted : Message ℕ → Node → Option (Effect A B)
+  abbrev pub reacted : Message ℕ → Node → Option (Effect A B)
   reacted m n =
       elim n [
         | node.Nowhere ↦ None
@@ -123,7 +123,7 @@ module _ {A B : Type 0} (ma : Meaning A) (mb : Meaning B) (w : World A B) where
   pub from-message : (e : Effect A B) (m : Message ℕ) → delivered ma mb w m ≡ Some e → Arises e
   from-message e m h = from-node e m (node-numbered (m .receiver)) refl (allowed (well-formed (figures ma mb w) m) (reacted m (node-numbered (m .receiver))) e h .1)
 
-  from-wish : {S : Type 0} (e : Effect A B) (by : Reaction (Bridge S ℕ) → Effect A B) (x : Result (Reaction (Bridge S ℕ)) DeviceFault) → wished by x ≡ Ok e
+  pub from-wish : {S : Type 0} (e : Effect A B) (by : Reaction (Bridge S ℕ) → Effect A B) (x : Result (Reaction (Bridge S ℕ)) DeviceFault) → wished by x ≡ Ok e
       → (r : Reaction (Bridge S ℕ)) × (x ≡ Ok r) × (e ≡ by r)
   from-wish e by (Ok r) h = (r, refl, let same : by r ≡ e = cc in sym same)
   from-wish e by (Err f) h = never cc

@@ -4,6 +4,7 @@ pub mod Clocks
 pub mod Counting
 pub mod Dating
 pub mod DeviceWords
+pub mod Happening
 pub mod HomeClocks
 pub mod Reading
 pub mod Rising
