@@ -1,6 +1,6 @@
 -- A device's words are the current values of its space: only an STio in it writes there, and it writes the device's word.
 use mathlib.Core.Bool.{Bool, true, false, cond, _&&_, _||_}
-use mathlib.Core.List.{List, [], _∷_, _++_}
+use mathlib.Core.List.{List, _++_}
 use mathlib.Core.Logic.{_⊎_, inl, inr}
 use mathlib.Core.Path.{_≡_, refl, sym, ap, subst, _∙_}
 use Prim.Native.Nat.{ℕ, _/_, _%_, _<_}
@@ -25,7 +25,6 @@ use Rattle.std.proofs.shelf.Ways.{tells}
 use Rattle.std.specs.Vec.{listOf}
 use Rattle.std.specs.declared.option.Option.{Option}
 use Rattle.std.specs.declared.option.Option.the-variants.{Some, None}
-use Rattle.trail.specs.Addresses.{covers, value-at}
 use Rattle.trail.specs.declared.address.Address.{Address}
 use Rattle.trail.specs.declared.entry.Entry.{Entry}
 use Rattle.coherence.proofs.Arising.{Arises, at-processor, at-home, at-first, at-second, never}

@@ -112,6 +112,7 @@ module _ {A B : Type 0} (ma : Meaning A) (mb : Meaning B) (w : World A B) where
     where
       m : Message ℕ
       m = getD (w .messages) i no-message
+
       go : (x : Option (Effect A B)) → delivered ma mb w m ≡ x → ruled ma mb w i x ≡ Ok e → Happens (removed (w .messages) i) e
       go None is h = never cc
       go (Some f) is h =

@@ -1,17 +1,16 @@
 -- A home's clock: it stays or passes, and its operation is stamped with it.
-use mathlib.Core.Bool.{Bool, true, false, cond}
+use mathlib.Core.Bool.{true, false}
 use mathlib.Core.Logic.{_⊎_, inl, inr}
 use mathlib.Core.Path.{_≡_, refl, ap, _∙_}
-use Prim.Native.Nat.{ℕ, _+_, _<_, max}
+use Prim.Native.Nat.{ℕ, _<_, max}
 use native.Mathlib.Omega.{arith}
 use Rattle.home.proofs.Keeps.{by-rule}
 use Rattle.home.specs.Directories.{awaits}
-use Rattle.home.specs.Reactions.{clock-after, entry-for, finished, refused, asking-home, began, asked, heard-home, after-hearing, acknowledged, clock-freed, awaits-taken, taken, received, words-after}
+use Rattle.home.specs.Reactions.{clock-after, entry-for, finished, refused, began, heard-home, after-hearing, clock-freed, awaits-taken, received, words-after}
 use Rattle.home.specs.Requests.{operation-for, request-of}
 use Rattle.home.specs.Sets.{is-empty}
 use Rattle.home.specs.declared.directory.Directory.{Directory}
 use Rattle.home.specs.declared.machine.Home.{Home}
-use Rattle.home.specs.declared.processors.Processors.{Processors}
 use Rattle.home.specs.declared.request.Request.{Request}
 use Rattle.message.specs.Nodes.{home-node, is-device}
 use Rattle.message.specs.declared.kind.Kind.{Kind}

@@ -1,12 +1,10 @@
 -- Where operations are done: a processor's on memory at itself, those on a device's words at the device's node, an
 -- interrupt at its processor, a block operation at the block's home. So entries of one device are in one node's order.
-use mathlib.Core.Bool.{Bool, true, false, cond, _&&_, _||_}
-use mathlib.Core.List.{List, [], _∷_, _++_}
-use mathlib.Core.Logic.{_⊎_, inl, inr}
+use mathlib.Core.Bool.{true, false, cond, _||_}
+use mathlib.Core.Logic.{inl, inr}
 use mathlib.Core.Path.{_≡_, refl, sym, ap, subst, _∙_}
-use Prim.Native.Nat.{ℕ, _+_, _<_, _≤_}
+use Prim.Native.Nat.{ℕ, _+_}
 use native.Mathlib.Omega.{arith}
-use lib.Dec.{eqb}
 use Rattle.bridge.proofs.Clocks as bridge
 use Rattle.bridge.proofs.Writing as bridge-writing
 use Rattle.device.specs.Meaning.{Meaning, Laws}

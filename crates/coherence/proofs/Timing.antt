@@ -1,5 +1,5 @@
 -- Every effect is timely: it moves its own node's clock alone, and never back.
-use mathlib.Core.Bool.{Bool, true, cond}
+use mathlib.Core.Bool.{true}
 use mathlib.Core.Logic.{_⊎_, inl, inr, ⊎-elim}
 use mathlib.Core.Path.{_≡_, refl, sym, subst}
 use Prim.Native.Nat.{ℕ, _+_, _-_, _<_}
@@ -10,7 +10,6 @@ use Rattle.bridge.specs.declared.state.Bridge.{Bridge}
 use Rattle.device.specs.Meaning.{Meaning}
 use Rattle.home.specs.Reactions.{received}
 use Rattle.home.specs.declared.machine.Home.{Home}
-use Rattle.message.specs.Nodes.{home-node}
 use Rattle.message.specs.declared.message.Message.{Message}
 use Rattle.message.specs.declared.reaction.Reaction.{Reaction}
 use Rattle.ordering.specs.Stamps.{stamped}
@@ -22,13 +21,13 @@ use Rattle.std.proofs.shelf.Tests.{lt-ltb, le-ltb, ne-eqb}
 use Rattle.std.specs.Options.{isSome}
 use Rattle.std.specs.Slices.{found}
 use Rattle.std.specs.declared.option.Option.{Option}
-use Rattle.std.specs.declared.option.Option.the-variants.{Some, None}
+use Rattle.std.specs.declared.option.Option.the-variants.{Some}
 use Rattle.trail.specs.declared.entry.Entry.{Entry}
 use Rattle.coherence.proofs.Arising.{Arises, at-processor, at-home, at-first, at-second}
 use Rattle.coherence.proofs.Clocks.{clock-at, Shape, Timely, processor-clock, processor-others, home-clock, home-others, first-others, second-others}
 use Rattle.coherence.proofs.HomeClocks.{Home-timely, home-timely}
 use Rattle.coherence.specs.Steps.{Effect, by-processor, by-home, by-first, by-second}
-use Rattle.coherence.specs.Worlds.{World, processor-at, home-at, with-home, with-processor}
+use Rattle.coherence.specs.Worlds.{World, processor-at, home-at}
 use Rattle.ordering.specs.Clocks.{Earlier}
 
 -- what holds of what came

@@ -18,7 +18,6 @@ use Rattle.ordering.specs.declared.clock.Clock.{Clock}
 use Rattle.ordering.specs.declared.stamp.Stamp.{Stamp}
 use Rattle.std.specs.declared.option.Option.{Option}
 use Rattle.std.specs.declared.option.Option.the-variants.{Some, None}
-use Rattle.std.specs.declared.result.Result.{Result}
 use Rattle.std.specs.declared.result.Result.the-variants.{Ok, Err}
 use Rattle.std.specs.Options.{mapped}
 use Rattle.std.specs.shelf.Maps.{nth}
@@ -29,7 +28,7 @@ use Rattle.coherence.specs.Makings.{Making}
 use Rattle.coherence.specs.Steps.{Answer, step}
 use Rattle.coherence.specs.Worlds.{World, processor-at, home-at}
 use Rattle.coherence.specs.declared.call.Call.{Call}
-use Rattle.coherence.specs.declared.call.Call.the-variants.{Load, Store, Request, LdIo, StIo, Collect, GiveUp, Act, Deliver, Poll}
+use Rattle.coherence.specs.declared.call.Call.the-variants.{Load, Store, Request, StIo, Act, Deliver}
 
 abbrev Plates : Type 0
 Plates = Window PlateSetter

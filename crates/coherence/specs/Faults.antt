@@ -2,13 +2,11 @@
 use Prim.Native.Nat.{ℕ}
 use Rattle.bridge.specs.Faults as device
 use Rattle.processor.specs.Refusals.{refusal-number, refusal-place}
-use Rattle.coherence.specs.declared.fault.BoardFault.{BoardFault}
 use Rattle.coherence.specs.declared.fault.BoardFault.the-variants.{NotFit, Argument, Refused, TrailFull, NumberEnds}
 use Rattle.coherence.specs.declared.fault.Fault.{Fault}
 use Rattle.coherence.specs.declared.fault.Fault.the-variants.{Device, Network, Board}
 use Rattle.coherence.specs.declared.fault.Layer.{Layer}
 use Rattle.coherence.specs.declared.fault.Layer.the-variants as layer
-use Rattle.coherence.specs.declared.fault.NetworkFault.{NetworkFault}
 use Rattle.coherence.specs.declared.fault.NetworkFault.the-variants.{OlderWaits, NoRule, MessagesFull}
 
 abbrev pub fault-layer : Fault → Layer

@@ -4,13 +4,12 @@ use mathlib.Core.Bool.{Bool, cond, _&&_}
 use mathlib.Core.List.{List, [], _∷_, _++_}
 use Prim.Native.Nat.{ℕ, _+_}
 use lib.Dec.{eqb, ltb}
-use lib.ListN.{getD}
 use Rattle.device.specs.Meaning.{Meaning}
 use Rattle.device.specs.declared.meaning.Wish.{Wish}
 use Rattle.message.specs.Nodes.{device-node}
 use Rattle.ordering.specs.Operations.{is, is-block}
 use Rattle.ordering.specs.declared.operation.Operation.{Operation}
-use Rattle.ordering.specs.declared.operation.Operation.the-variants.{Ld, St, LdIo, StIo, Int, LdBlk, StBlk}
+use Rattle.ordering.specs.declared.operation.Operation.the-variants.{Ld, St, LdIo, StIo, Int}
 use Rattle.ordering.specs.declared.order.Access.{Access}
 use Rattle.std.specs.Options.{mapped}
 use Rattle.std.specs.Vec.{listOf}

@@ -1,13 +1,12 @@
 -- Making a board: its figures, and the world that it begins with.
 use mathlib.Core.Bool.{Bool, _&&_}
 use mathlib.Core.List.{List, [], _∷_, map}
-use Prim.Native.Nat.{ℕ, _+_, _*_, _≤_}
+use Prim.Native.Nat.{ℕ, _+_, _*_}
 use lib.Dec.{leb, eqb}
 use lib.ListN.{length, getD, replicate}
 use Rattle.bridge.specs.States as bridge
 use Rattle.device.specs.Meaning.{Meaning}
 use Rattle.home.specs.Homes.{new-home}
-use Rattle.home.specs.declared.machine.Home.{Home}
 use Rattle.ordering.specs.Clocks.{number-end}
 use Rattle.ordering.specs.declared.operation.Words.{Words}
 use Rattle.processor.specs.States.{made}

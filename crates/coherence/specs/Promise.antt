@@ -1,9 +1,9 @@
 -- The order promise, for a run that began with making k: what holds of its trail, its operations and its messages.
-use mathlib.Core.Bool.{Bool, true, cond}
+use mathlib.Core.Bool.{true, cond}
 use mathlib.Core.List.{List}
 use mathlib.Core.Path.{_≡_}
 use Prim.Native.Nat.{ℕ, _<_}
-use lib.Dec.{eqb, ltb}
+use lib.Dec.{eqb}
 use lib.ListN.{getD}
 use Rattle.device.specs.Meaning.{Meaning}
 use Rattle.message.specs.Nodes.{is-device}

@@ -1,7 +1,7 @@
 -- What a call does: the first thing that forbids it, or what one node does; then one commit.
-use mathlib.Core.Bool.{Bool, true, false, cond, _&&_}
+use mathlib.Core.Bool.{Bool, cond, _&&_}
 use mathlib.Core.List.{List, [], _∷_, _++_}
-use Prim.Native.Nat.{ℕ, _+_, _≤_}
+use Prim.Native.Nat.{ℕ, _+_}
 use lib.Dec.{ltb, leb}
 use lib.ListN.{length, getD}
 use Rattle.bridge.specs.Reactions as bridge
@@ -29,7 +29,7 @@ use Rattle.processor.specs.Receive as processor-messages
 use Rattle.processor.specs.States.{numbers-within}
 use Rattle.processor.specs.declared.refusal.Refusal.{Refusal}
 use Rattle.processor.specs.declared.state.Processor.{Processor}
-use Rattle.std.specs.Options.{mapped, isSome}
+use Rattle.std.specs.Options.{mapped}
 use Rattle.std.specs.Vec.{listOf}
 use Rattle.std.specs.declared.option.Option.{Option}
 use Rattle.std.specs.declared.option.Option.the-variants.{Some, None}
