@@ -3,7 +3,7 @@ use mathlib.Core.Bool.{Bool, true, false, cond}
 use mathlib.Core.List.{List, [], _∷_, _++_}
 use mathlib.Core.Path.{_≡_}
 use Prim.Native.Nat.{ℕ}
-use lib.Dec.{leb, eqb}
+use lib.Dec.{ltb, leb, eqb}
 use lib.ListN.{length, drop}
 use Rattle.std.specs.declared.option.Option.{Option}
 use Rattle.std.specs.declared.option.Option.the-variants.{Some, None}
@@ -46,18 +46,20 @@ has-none None = true
 has-none (Some xs) = false
 
 -- A newline ends a line; where nothing is left there is no further line.
-abbrev pub nonempty : Option (List ℕ) → Option (List ℕ)
-nonempty None = None
-nonempty (Some []) = None
-nonempty (Some (x ∷ xs)) = Some (x ∷ xs)
+abbrev pub some-left : List ℕ → ℕ → Option (List ℕ)
+some-left bytes at = cond (ltb at (length bytes)) (Some (drop at bytes)) None
 
 abbrev pub to-come : Lines → Option (List ℕ)
-to-come l = nonempty (left (l .bytes .now) (l .at))
+to-come l = some-left (l .bytes .now) (l .at)
 
 abbrev pub first-line : Option (List ℕ) → Option (List ℕ)
 first-line None = None
 first-line (Some xs) = Some (before 10 xs)
 
+abbrev pub unless-empty : Option (List ℕ) → Option (List ℕ)
+unless-empty None = None
+unless-empty (Some xs) = some-left xs 0
+
 abbrev pub other-lines : Option (List ℕ) → Option (List ℕ)
 other-lines None = None
-other-lines (Some xs) = nonempty (after 10 xs)
+other-lines (Some xs) = unless-empty (after 10 xs)

@@ -4,7 +4,7 @@ ghost use mathlib.Core.Path.{_≡_};
 ghost use Prim.Native.Nat.{_+_, _-_, _≤_};
 ghost use lib.ListN.{length, take, drop};
 ghost use Rattle.text.specs.Numbers.{decimal, with-digit};
-ghost use Rattle.text.specs.Parts.{before, after, left};
+ghost use Rattle.text.specs.Parts.{before, after, left, some-left, unless-empty};
 
 // The number with one more digit, unless the byte is none or the number leaves 32 bits.
 fn with_digit(number: u32, byte: u8) -> Option<u32>
@@ -44,6 +44,7 @@ pub(crate) fn end_from(bytes: &[u8], at: usize, mark: u8) -> usize
     ensures high { λ r. ⌜ r ≤ length (now (bytes .entry)) ⌝ }
     ensures part { λ r. ⌜ take (r - at) (drop at (now (bytes .entry))) ≡ before mark (drop at (now (bytes .entry))) ⌝ }
     ensures rest { λ r. ⌜ left (now (bytes .entry)) (r + 1) ≡ after mark (drop at (now (bytes .entry))) ⌝ }
+    ensures more { λ r. ⌜ some-left (now (bytes .entry)) (r + 1) ≡ unless-empty (after mark (drop at (now (bytes .entry)))) ⌝ }
 {
     let mut end = at;
     while end < bytes.len() && bytes[end] != mark {

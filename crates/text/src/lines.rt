@@ -2,8 +2,7 @@
 
 ghost use mathlib.Core.Path.{_≡_};
 ghost use Rattle.std.specs.Options.{mapped};
-ghost use Rattle.std.specs.declared.option.Option.the-variants.{Some};
-ghost use Rattle.text.specs.Parts.{nonempty, to-come, first-line, other-lines};
+ghost use Rattle.text.specs.Parts.{some-left, to-come, first-line, other-lines};
 use crate::bytes::end_from;
 
 /// A text and the place up to which it has been read.
@@ -15,7 +14,7 @@ pub struct Lines<'a> {
 
 impl<'a> Lines<'a> {
     pub fn new(text: &'a [u8]) -> Lines<'a>
-        ensures { λ r. ⌜ to-come r ≡ nonempty (Some (now (text .entry))) ⌝ }
+        ensures { λ r. ⌜ to-come r ≡ some-left (now (text .entry)) 0 ⌝ }
     {
         Lines { bytes: text, at: 0 }
     }
