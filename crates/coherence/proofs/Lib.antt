@@ -11,5 +11,6 @@ pub mod Rising
 pub mod Running
 pub mod Seats
 pub mod Stepping
+pub mod Tables
 pub mod Tally
 pub mod Timing
