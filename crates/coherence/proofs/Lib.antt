@@ -5,6 +5,10 @@ pub mod Counting
 pub mod Dating
 pub mod DeviceWords
 pub mod Happening
+pub mod FormsBuilt
+pub mod FormsFigures
+pub mod FormsNumbers
+pub mod FormsProcessors
 pub mod HomeClocks
 pub mod Reading
 pub mod Rising
