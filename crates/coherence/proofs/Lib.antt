@@ -7,6 +7,7 @@ pub mod DeviceWords
 pub mod Happening
 pub mod FormsBuilt
 pub mod FormsFigures
+pub mod FormsHomes
 pub mod FormsKept
 pub mod FormsNumbers
 pub mod FormsProcessors
