@@ -5,6 +5,7 @@ pub mod Counting
 pub mod Dating
 pub mod DeviceWords
 pub mod Happening
+pub mod FormsBridges
 pub mod FormsBuilt
 pub mod FormsFigures
 pub mod FormsHomes
