@@ -1,6 +1,6 @@
 -- What a bridge sends is well formed, whatever its device wishes.
-use mathlib.Core.Bool.{Bool, true, false, cond, _||_, _&&_}
-use mathlib.Core.Path.{_≡_, refl, sym, ap, subst, _∙_}
+use mathlib.Core.Bool.{true, false, _&&_}
+use mathlib.Core.Path.{_≡_, refl, sym, subst}
 use Prim.Native.Nat.{ℕ, _+_, _<_, _≤_}
 use native.Mathlib.Omega.{arith}
 use lib.Dec.{eqb, ltb, leb}
@@ -10,19 +10,18 @@ use Rattle.bridge.specs.Acts as acts
 use Rattle.bridge.specs.Deeds.{word-at, value-of, deed-done, performed}
 use Rattle.bridge.specs.Inputs.{Input, Act, Receive, reaction}
 use Rattle.bridge.specs.Plans.{plan-within}
-use Rattle.bridge.specs.Receipts.{answering, asked, asked-access, replied, again, refused, receive-kind}
+use Rattle.bridge.specs.Receipts.{asked, asked-access, replied, again, refused, receive-kind}
 use Rattle.bridge.specs.States.{at-numbers}
 use Rattle.bridge.specs.declared.fault.DeviceFault.{DeviceFault}
 use Rattle.bridge.specs.declared.fault.DeviceFault.the-variants.{MustWait}
 use Rattle.bridge.specs.declared.plan.Deed.{Deed}
 use Rattle.bridge.specs.declared.plan.Deed.the-variants.{Load, Store, Interrupt, Request, Read, Write, Land, Finish, Resend}
 use Rattle.bridge.specs.declared.plan.Plan.{Plan}
-use Rattle.bridge.specs.declared.plan.WordAccess.{WordAccess}
 use Rattle.bridge.specs.declared.state.Bridge.{Bridge}
 use Rattle.device.specs.Meaning.{Meaning}
 use Rattle.device.specs.declared.meaning.Wish.{Wish}
 use Rattle.message.proofs.Soundness.{well-formed-are-sound}
-use Rattle.message.specs.Checks.{has-processor, word-count, end-fits, all-are-zero}
+use Rattle.message.specs.Checks.{has-processor, word-count, all-are-zero}
 use Rattle.message.specs.Forms.{row, returned}
 use Rattle.message.specs.Kinds.{is-request}
 use Rattle.message.specs.Laws.{comes-from-home, goes-home}
@@ -30,7 +29,6 @@ use Rattle.message.specs.Nodes.{home-node, device-node, is-device}
 use Rattle.message.specs.Reactions.{sent}
 use Rattle.message.specs.Requests.{out, is-out}
 use Rattle.message.specs.declared.figures.Figures.{Figures}
-use Rattle.message.specs.declared.form.End.the-variants as end
 use Rattle.message.specs.declared.kind.Kind.{Kind}
 use Rattle.message.specs.declared.kind.Kind.the-variants as kind
 use Rattle.message.specs.declared.message.Message.{Message}

@@ -1,16 +1,16 @@
 -- Well-formed messages taken apart and put together: by the form of the kind, part by part.
 use mathlib.Core.Bool.{Bool, true, false, cond, _&&_, _||_}
 use mathlib.Core.Path.{_≡_, refl, sym, subst}
-use Prim.Native.Nat.{ℕ, _+_, _<_, _≤_}
+use Prim.Native.Nat.{ℕ, _+_, _<_}
 use native.Mathlib.Omega.{arith}
 use lib.Dec.{eqb, ltb, leb}
-use Rattle.message.specs.Checks.{has-processor, end-fits, words-fit, numbers-fit, fits, well-formed, all-are-zero}
+use Rattle.message.specs.Checks.{has-processor, end-fits, words-fit, numbers-fit, fits, well-formed}
 use Rattle.message.specs.Forms.{form-of, row, returned}
 use Rattle.message.specs.Kinds.{same-kind, is-request}
 use Rattle.message.specs.Messages.{plain}
 use Rattle.message.specs.Nodes.{home-node, is-device}
 use Rattle.message.specs.declared.figures.Figures.{Figures}
-use Rattle.message.specs.declared.form.End.the-variants.{Home, Requester}
+use Rattle.message.specs.declared.form.End.the-variants.{Home}
 use Rattle.message.specs.declared.form.Form.{Form}
 use Rattle.message.specs.declared.kind.Kind.{Kind}
 use Rattle.message.specs.declared.kind.Kind.the-variants as kind

@@ -1,5 +1,4 @@
 -- The figures of a board stay: no call adds a processor, and no device gains or loses a word.
-use mathlib.Core.Bool.{Bool, true, false, cond}
 use mathlib.Core.List.{List, [], _∷_}
 use mathlib.Core.Path.{_≡_, refl, sym, ap, subst, _∙_}
 use Prim.Native.Nat.{ℕ}
@@ -9,7 +8,6 @@ use Rattle.bridge.specs.Inputs as bridge
 use Rattle.bridge.specs.Laws.{rewritten}
 use Rattle.bridge.specs.declared.state.Bridge.{Bridge}
 use Rattle.device.specs.Meaning.{Meaning, Laws}
-use Rattle.message.specs.declared.figures.Figures.{Figures}
 use Rattle.message.specs.declared.message.Message.{Message}
 use Rattle.message.specs.declared.reaction.Reaction.{Reaction}
 use Rattle.ordering.specs.Operations.{is}

@@ -1,30 +1,28 @@
 -- What a home sends is well formed, and what it keeps stays so.
-use mathlib.Core.Bool.{Bool, true, false, cond, _||_, _&&_}
-use mathlib.Core.List.{List, [], _∷_}
-use mathlib.Core.Path.{_≡_, refl, sym, subst}
+use mathlib.Core.Bool.{Bool, true, false, cond, _&&_}
+use mathlib.Core.List.{List, _∷_}
+use mathlib.Core.Path.{_≡_, refl}
 use Prim.Native.Nat.{ℕ, _<_}
 use native.Mathlib.Omega.{arith}
 use lib.Dec.{ltb, leb}
-use Rattle.home.specs.Directories.{view, awaits, replied}
+use Rattle.home.specs.Directories.{view, awaits}
 use Rattle.home.specs.Laws.{is-free}
 use Rattle.home.specs.Plans.{plan}
-use Rattle.home.specs.Reactions.{clock-after, words-after, reply, finished, nack, refused, ask-one, asks, asking-home, began, asked, planned, requested, heard-home, after-hearing, acknowledged, clock-freed, awaits-taken, taken, received}
+use Rattle.home.specs.Reactions.{clock-after, words-after, reply, finished, nack, refused, ask-one, asks, began, asked, planned, heard-home, after-hearing, acknowledged, awaits-taken, taken, received}
 use Rattle.home.specs.Requests.{request-of, asks-down, asks-by, reply-kind, carries-words, gives-copy}
-use Rattle.home.specs.Sets.{nobody, has, with-member, is-empty}
-use Rattle.home.specs.declared.directory.Directory.{Directory}
+use Rattle.home.specs.Sets.{has, with-member, is-empty}
 use Rattle.home.specs.declared.machine.Home.{Home}
 use Rattle.home.specs.declared.plan.Plan.{Plan}
 use Rattle.home.specs.declared.plan.Plan.the-variants.{Nothing, Refuse, Ask}
 use Rattle.home.specs.declared.processors.Processors.{Processors}
 use Rattle.home.specs.declared.request.Request.{Request}
 use Rattle.message.specs.Checks.{has-processor, end-fits, fits}
-use Rattle.message.specs.Forms.{row, returned, form-of}
+use Rattle.message.specs.Forms.{row, returned}
 use Rattle.message.specs.Kinds.{same-kind, is-request}
 use Rattle.message.specs.Messages.{plain}
 use Rattle.message.specs.Nodes.{home-node}
 use Rattle.message.specs.Reactions.{gathered, sent, quiet}
 use Rattle.message.specs.declared.figures.Figures.{Figures}
-use Rattle.message.specs.declared.form.Form.{Form}
 use Rattle.message.specs.declared.kind.Kind.{Kind}
 use Rattle.message.specs.declared.kind.Kind.the-variants as kind
 use Rattle.message.specs.declared.message.Message.{Message}
@@ -32,14 +30,14 @@ use Rattle.message.specs.declared.reaction.Reaction.{Reaction}
 use Rattle.ordering.specs.Clocks.{number-end, is-within}
 use Rattle.ordering.specs.Words.{no-words}
 use Rattle.ordering.specs.declared.operation.Words.{Words}
-use Rattle.std.proofs.shelf.Tests.{and-from, cond-both, both-ways, or-left, or-right, lt-ltb}
+use Rattle.std.proofs.shelf.Tests.{and-from, cond-both, both-ways, or-left, or-right}
 use Rattle.std.proofs.shelf.Ways.{tells}
 use Rattle.std.specs.Slices.{found}
 use Rattle.std.specs.declared.option.Option.{Option}
 use Rattle.std.specs.declared.option.Option.the-variants.{Some, None}
 use Rattle.std.specs.shelf.Lists.{All}
-use Rattle.coherence.proofs.FormsBuilt.{Well, Fits, fits-by, home-end, global-within}
-use Rattle.coherence.proofs.FormsKept.{asked-of, Request-well, On-board, Home-well, request-fits, request-kept, nobody-on-board, fewer, one-more-on-board, copy-goes-to-processor, Plan-good, plan-good}
+use Rattle.coherence.proofs.FormsBuilt.{Well, fits-by, home-end, global-within}
+use Rattle.coherence.proofs.FormsKept.{Request-well, On-board, Home-well, request-fits, request-kept, nobody-on-board, fewer, one-more-on-board, copy-goes-to-processor, Plan-good, plan-good}
 
 pub record Home-good (f : Figures) (b : ℕ) (x : Reaction (Home ℕ)) : Type 0 where
   pub next : Home-well f b (x .next)

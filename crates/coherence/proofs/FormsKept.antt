@@ -1,11 +1,9 @@
 -- What a home keeps is well formed: the request that it has taken, and holders and awaited that are the board's.
-use mathlib.Core.Bool.{Bool, true, false, cond, _||_}
-use mathlib.Core.Logic.{_⊎_, inl, inr, ⊎-elim}
+use mathlib.Core.Bool.{Bool, true, false}
+use mathlib.Core.Logic.{⊎-elim}
 use mathlib.Core.Path.{_≡_, refl, sym, subst, _∙_}
-use Prim.Native.Nat.{ℕ, zero, suc, _+_, _<_}
+use Prim.Native.Nat.{ℕ, zero, suc}
 use native.Mathlib.Omega.{arith}
-use lib.ListN.{getD, set}
-use Rattle.home.specs.Directories.{awaits}
 use Rattle.home.specs.Laws.{is-free}
 use Rattle.home.specs.Plans.{plan, column, newcomer, holder, at-once, ask-others}
 use Rattle.home.specs.Requests.{request-of, gives-copy}

@@ -1,9 +1,9 @@
 -- The numbers of every node at rest are within their end: a call that would take one past it is not committed.
-use mathlib.Core.Bool.{Bool, true, false, _&&_}
+use mathlib.Core.Bool.{true, _&&_}
 use mathlib.Core.List.{List}
-use mathlib.Core.Logic.{_⊎_, inl, inr, ⊎-elim}
+use mathlib.Core.Logic.{⊎-elim}
 use mathlib.Core.Path.{_≡_, refl, sym, ap, subst, _∙_}
-use Prim.Native.Nat.{ℕ, _+_, _<_, _≤_}
+use Prim.Native.Nat.{ℕ, _+_, _<_}
 use native.Mathlib.Omega.{arith}
 use lib.Dec.{leb}
 use lib.ListN.{length, getD, set, replicate}
@@ -12,13 +12,11 @@ use Rattle.home.specs.Homes.{new-home}
 use Rattle.home.specs.declared.machine.Home.{Home}
 use Rattle.message.specs.declared.message.Message.{Message}
 use Rattle.ordering.specs.Clocks.{number-end, is-within}
-use Rattle.ordering.specs.declared.clock.Clock.{Clock}
 use Rattle.processor.specs.States.{made, numbers-within}
 use Rattle.processor.specs.declared.state.Processor.{Processor}
-use Rattle.std.proofs.shelf.Counted.{getD-map-counting, length-map-counting}
-use Rattle.std.proofs.shelf.Lists.{getD-set-same, getD-set-other, getD-past, getD-replicate, length-replicate}
+use Rattle.std.proofs.shelf.Counted.{getD-map-counting}
+use Rattle.std.proofs.shelf.Lists.{getD-set-same, getD-set-other, getD-past, getD-replicate}
 use Rattle.std.proofs.shelf.Tests.{and-parts, and-from, cases-lt, cases-eq}
-use Rattle.std.specs.Iters.{counting}
 use Rattle.coherence.proofs.Arising.{Arises, at-processor, at-home, at-first, at-second}
 use Rattle.coherence.proofs.Clocks.{Shape}
 use Rattle.coherence.proofs.Stepping.{after}

@@ -1,13 +1,13 @@
 -- What a processor of the board sends is well formed.
 use mathlib.Core.Bool.{Bool, true, false, _&&_, _||_}
-use mathlib.Core.Path.{_≡_, refl, sym, ap, subst}
+use mathlib.Core.Path.{_≡_, refl, sym, subst}
 use Prim.Native.Nat.{ℕ, _+_, _<_}
 use native.Mathlib.Omega.{arith}
 use lib.Dec.{ltb, leb}
 use Rattle.message.proofs.Soundness.{well-formed-are-sound}
 use Rattle.message.specs.Checks.{has-processor, word-count, all-are-zero}
 use Rattle.message.specs.Forms.{row}
-use Rattle.message.specs.Kinds.{kind-number, same-kind}
+use Rattle.message.specs.Kinds.{kind-number}
 use Rattle.message.specs.Laws.{Sound, comes-from-home, goes-home}
 use Rattle.message.specs.Messages.{plain}
 use Rattle.message.specs.Nodes.{home-node, device-node, node-numbered}
@@ -28,7 +28,7 @@ use Rattle.ordering.specs.declared.operation.Words.{Words}
 use Rattle.processor.specs.Calls.{to-device}
 use Rattle.processor.specs.Inputs.{Input, Load, Store, Request, Ldio, Stio, Collect, Give-up, Poll, Receive, reaction}
 use Rattle.processor.specs.Lines.{line-at}
-use Rattle.processor.specs.Receive.{Outcome, acknowledgement, giving-way, invalidated, downgraded, taking, taking-line, granted, nacked, fetched, fetched-from, receive-kind, receive}
+use Rattle.processor.specs.Receive.{Outcome, acknowledgement, giving-way, invalidated, downgraded, taking, taking-line, granted, nacked, fetched, fetched-from, receive-kind}
 use Rattle.processor.specs.Slots.{slot-at}
 use Rattle.processor.specs.States.{numbers-within, at-line}
 use Rattle.processor.specs.declared.line.Line.{Line}

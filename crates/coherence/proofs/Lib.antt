@@ -5,11 +5,14 @@ pub mod Counting
 pub mod Dating
 pub mod DeviceWords
 pub mod Happening
+pub mod Forms
+pub mod FormsArising
 pub mod FormsBridges
 pub mod FormsBuilt
 pub mod FormsFigures
 pub mod FormsHomes
 pub mod FormsKept
+pub mod FormsNodes
 pub mod FormsNumbers
 pub mod FormsProcessors
 pub mod HomeClocks
