@@ -66,17 +66,17 @@ module _ {A B : Type 0} (ma : Meaning A) (mb : Meaning B) where
         (cases-eq j b)
 
     effect-good : (c : Call) (e : Effect A B) → Meets ma mb w c e → e .within ≡ true → Good (figures ma mb w) e
-    effect-good c e (at-call p small i r own ok rest h is) within =
+    effect-good c e (at-call p small i r asks own ok rest h is) within =
         subst (Good (figures ma mb w)) (sym is) (record {
           sends = processor-sends (figures ma mb w) p (on-board p small) (processor-at w p) i r ok h (sym (ap (λ (x : Effect A B). x .within) is) ∙ within);
           homes = homes;
         })
-    effect-good c e (at-first-wish r rest h is) within =
+    effect-good c e (at-first-wish r asks h is) within =
         subst (Good (figures ma mb w)) (sym is) (record {
           sends = bridge-sends ma (figures ma mb w) 0 refl refl (w .first) (bridge.Act (w .count)) r (refl, few) h (sym (ap (λ (x : Effect A B). x .within) is) ∙ within);
           homes = homes;
         })
-    effect-good c e (at-second-wish r rest h is) within =
+    effect-good c e (at-second-wish r asks h is) within =
         subst (Good (figures ma mb w)) (sym is) (record {
           sends = bridge-sends mb (figures ma mb w) 1 refl refl (w .second) (bridge.Act (w .count)) r (refl, few) h (sym (ap (λ (x : Effect A B). x .within) is) ∙ within);
           homes = homes;

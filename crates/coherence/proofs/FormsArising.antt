@@ -43,6 +43,19 @@ use Rattle.coherence.specs.declared.call.Call.{Call}
 use Rattle.coherence.specs.declared.call.Call.the-variants.{Load, Store, Request, LdIo, StIo, Collect, GiveUp, Act, Deliver, Poll}
 use Rattle.coherence.specs.declared.fault.Fault.{Fault}
 
+-- What a call of a processor asks of it: which processor, and what.
+abbrev pub Asks : Call → ℕ → processor.Input → Type 0
+Asks (Load p n) q i = (q ≡ p) × (i ≡ processor.Load n) × (n < 64)
+Asks (Store p n v) q i = (q ≡ p) × (i ≡ processor.Store n v) × (n < 64)
+Asks (Request p b k) q i = (q ≡ p) × (j : Kind) × (request-numbered k ≡ Some j) × (i ≡ processor.Request b j)
+Asks (LdIo p d n) q i = (q ≡ p) × (i ≡ processor.Ldio d n) × (d < 2)
+Asks (StIo p d n v) q i = (q ≡ p) × (i ≡ processor.Stio d n v) × (d < 2)
+Asks (Collect p d) q i = (q ≡ p) × (i ≡ processor.Collect d) × (d < 2)
+Asks (GiveUp p d) q i = (q ≡ p) × (i ≡ processor.Give-up d) × (d < 2)
+Asks (Act d) q i = ⊥
+Asks (Deliver n) q i = ⊥
+Asks (Poll p) q i = (q ≡ p) × (i ≡ processor.Poll)
+
 module _ {A B : Type 0} (ma : Meaning A) (mb : Meaning B) (w : World A B) where
   -- The message that a call delivers, to the node with this number.
   pub record Goes (c : Call) (m : Message ℕ) (to : ℕ) : Type 0 where
@@ -54,12 +67,12 @@ module _ {A B : Type 0} (ma : Meaning A) (mb : Meaning B) (w : World A B) where
     pub well : Well (figures ma mb w) m
     pub receiver : m .receiver ≡ to
 
-  -- A processor is called, a device has a wish, or a message reaches a node.
+  -- A processor is called, a device has a wish, or a message reaches a node of the board.
   pub data Meets (c : Call) (e : Effect A B) : Type 0 where
-    at-call : (p : ℕ) → p < w .count → (i : processor.Input) (r : Reaction (Processor ℕ)) → processor.message-of i ≡ None → Allowed (figures ma mb w) i → waiting ma mb c w ≡ w .messages
+    at-call : (p : ℕ) → p < w .count → (i : processor.Input) (r : Reaction (Processor ℕ)) → Asks c p i → processor.message-of i ≡ None → Allowed (figures ma mb w) i → waiting ma mb c w ≡ w .messages
         → processor.reaction (processor-at w p) p i ≡ Some r → e ≡ by-processor w p r → Meets c e
-    at-first-wish : (r : Reaction (Bridge A ℕ)) → waiting ma mb c w ≡ w .messages → bridge.reaction ma 0 (w .first) (bridge.Act (w .count)) ≡ Some r → e ≡ by-first w r → Meets c e
-    at-second-wish : (r : Reaction (Bridge B ℕ)) → waiting ma mb c w ≡ w .messages → bridge.reaction mb 1 (w .second) (bridge.Act (w .count)) ≡ Some r → e ≡ by-second w r → Meets c e
+    at-first-wish : (r : Reaction (Bridge A ℕ)) → c ≡ Act 0 → bridge.reaction ma 0 (w .first) (bridge.Act (w .count)) ≡ Some r → e ≡ by-first w r → Meets c e
+    at-second-wish : (r : Reaction (Bridge B ℕ)) → c ≡ Act 1 → bridge.reaction mb 1 (w .second) (bridge.Act (w .count)) ≡ Some r → e ≡ by-second w r → Meets c e
     to-processor : (p : ℕ) → p < w .count → (m : Message ℕ) (r : Reaction (Processor ℕ)) → Goes c m p → processor.reaction (processor-at w p) p (processor.Receive m) ≡ Some r → e ≡ by-processor w p r → Meets c e
     to-home : (b : ℕ) → b < 16 → (m : Message ℕ) (r : Reaction (Home ℕ)) → Goes c m (home-node b) → home.received (home-at w b) b m ≡ Some r → e ≡ by-home w b r → Meets c e
     to-first : (m : Message ℕ) (r : Reaction (Bridge A ℕ)) → Goes c m (device-node 0) → bridge.reaction ma 0 (w .first) (bridge.Receive m) ≡ Some r → e ≡ by-first w r → Meets c e
@@ -74,10 +87,10 @@ module _ {A B : Type 0} (ma : Meaning A) (mb : Meaning B) (w : World A B) where
   allowed true o x h = (refl, h)
   allowed false o x h = never cc
 
-  from-call : (c : Call) (e : Effect A B) (p : ℕ) (i : processor.Input) (x : Result (Reaction (Processor ℕ)) Refusal) → p < w .count → processor.message-of i ≡ None → Allowed (figures ma mb w) i
+  from-call : (c : Call) (e : Effect A B) (p : ℕ) (i : processor.Input) (x : Result (Reaction (Processor ℕ)) Refusal) → p < w .count → Asks c p i → processor.message-of i ≡ None → Allowed (figures ma mb w) i
       → waiting ma mb c w ≡ w .messages → processor.reaction (processor-at w p) p i ≡ processor.accepted x → called w p x ≡ Ok e → Meets c e
-  from-call c e p i (Ok r) small own ok rest is h = at-call p small i r own ok rest is (let same : by-processor w p r ≡ e = cc in sym same)
-  from-call c e p i (Err f) small own ok rest is h = never cc
+  from-call c e p i (Ok r) small asks own ok rest is h = at-call p small i r asks own ok rest is (let same : by-processor w p r ≡ e = cc in sym same)
+  from-call c e p i (Err f) small asks own ok rest is h = never cc
 
   from-wish : {S : Type 0} (e : Effect A B) (by : Reaction (Bridge S ℕ) → Effect A B) (x : Result (Reaction (Bridge S ℕ)) DeviceFault) → wished by x ≡ Ok e
       → (r : Reaction (Bridge S ℕ)) × (x ≡ Ok r) × (e ≡ by r)
@@ -87,16 +100,20 @@ module _ {A B : Type 0} (ma : Meaning A) (mb : Meaning B) (w : World A B) where
   wish-done : {S : Type 0} (x : Result (Reaction (Bridge S ℕ)) DeviceFault) (r : Reaction (Bridge S ℕ)) → x ≡ Ok r → elim x [ Ok r ↦ Some r | Err f ↦ None ] ≡ Some r
   wish-done x r is = rw is refl
 
-  from-act : (e : Effect A B) (d : ℕ) → acted ma mb w d ≡ Ok e → Meets (Act d) e
-  from-act e d h = go (ltb d 1) h
+  from-act : (e : Effect A B) (d : ℕ) → d < 2 → acted ma mb w d ≡ Ok e → Meets (Act d) e
+  from-act e d two h = go (ltb d 1) refl h
     where
-      go : (b : Bool) → cond b (wished (by-first w) (bridge-reactions.act ma 0 (w .count) (w .first))) (wished (by-second w) (bridge-reactions.act mb 1 (w .count) (w .second))) ≡ Ok e → Meets (Act d) e
-      go true h =
+      go : (b : Bool) → ltb d 1 ≡ b → cond b (wished (by-first w) (bridge-reactions.act ma 0 (w .count) (w .first))) (wished (by-second w) (bridge-reactions.act mb 1 (w .count) (w .second))) ≡ Ok e → Meets (Act d) e
+      go true low h =
+          let lt = ltb-true d 1 low in
+          let zero : d ≡ 0 = omega arith in
           let x = from-wish e (by-first w) (bridge-reactions.act ma 0 (w .count) (w .first)) h in
-          at-first-wish (x .0) refl (wish-done (bridge-reactions.act ma 0 (w .count) (w .first)) (x .0) (x .1)) (x .2)
-      go false h =
+          at-first-wish (x .0) (ap Act zero) (wish-done (bridge-reactions.act ma 0 (w .count) (w .first)) (x .0) (x .1)) (x .2)
+      go false high h =
+          let le = ltb-false d 1 high in
+          let one : d ≡ 1 = omega arith in
           let x = from-wish e (by-second w) (bridge-reactions.act mb 1 (w .count) (w .second)) h in
-          at-second-wish (x .0) refl (wish-done (bridge-reactions.act mb 1 (w .count) (w .second)) (x .0) (x .1)) (x .2)
+          at-second-wish (x .0) (ap Act one) (wish-done (bridge-reactions.act mb 1 (w .count) (w .second)) (x .0) (x .1)) (x .2)
 
   abbrev reacted : Message ℕ → Node → Option (Effect A B)
   reacted m n =
@@ -156,9 +173,9 @@ module _ {A B : Type 0} (ma : Meaning A) (mb : Meaning B) (w : World A B) where
   from-oldest e i (Some q) there turn h = never cc
   from-oldest e i None there turn h = from-delivery i there turn e (delivered ma mb w (getD (w .messages) i no-message)) refl h
 
-  from-request : (e : Effect A B) (p b n : ℕ) (k : Option Kind) → p < w .count → requested ma mb w p b k ≡ Ok e → Meets (Request p b n) e
-  from-request e p b n None small h = never cc
-  from-request e p b n (Some j) small h = from-call (Request p b n) e p (processor.Request b j) (call.request (processor-at w p) p b j) small refl tt refl refl h
+  from-request : (e : Effect A B) (p b n : ℕ) (k : Option Kind) → request-numbered n ≡ k → p < w .count → requested ma mb w p b k ≡ Ok e → Meets (Request p b n) e
+  from-request e p b n None is small h = never cc
+  from-request e p b n (Some j) is small h = from-call (Request p b n) e p (processor.Request b j) (call.request (processor-at w p) p b j) small (refl, j, is, refl) refl tt refl refl h
 
   -- how many words the figures give a device
   counted-words : (d : ℕ) → d < 2 → word-count (figures ma mb w) (device-node d) ≡ length (words-of ma mb w d)
@@ -185,29 +202,31 @@ module _ {A B : Type 0} (ma : Meaning A) (mb : Meaning B) (w : World A B) where
   pub meets : (c : Call) (e : Effect A B) → effect ma mb c w ≡ Ok e → Meets c e
   meets (Load p n) e h =
       let x = two p (argument 1) (argument 2) (ltb n 64) e h in
-      from-call (Load p n) e p (processor.Load n) (call.load (processor-at w p) p n) (x .0) refl tt refl refl (x .2)
+      from-call (Load p n) e p (processor.Load n) (call.load (processor-at w p) p n) (x .0) (refl, refl, ltb-true n 64 (x .1)) refl tt refl refl (x .2)
   meets (Store p n v) e h =
       let x = two p (argument 1) (argument 2) (ltb n 64) e h in
-      from-call (Store p n v) e p (processor.Store n v) (call.store (processor-at w p) p n v) (x .0) refl tt refl refl (x .2)
+      from-call (Store p n v) e p (processor.Store n v) (call.store (processor-at w p) p n v) (x .0) (refl, refl, ltb-true n 64 (x .1)) refl tt refl refl (x .2)
   meets (Request p b k) e h =
       let x = two p (argument 1) (argument 2) (ltb b 16) e h in
-      from-request e p b k (request-numbered k) (x .0) (x .2)
+      from-request e p b k (request-numbered k) refl (x .0) (x .2)
   meets (LdIo p d n) e h =
       let x = three p (argument 1) (argument 2) (argument 3) (ltb d 2) (ltb n (length (words-of ma mb w d))) e h in
-      from-call (LdIo p d n) e p (processor.Ldio d n) (call.ldio (processor-at w p) p d n) (x .0) refl (has-word d n (x .1) (x .2)) refl refl (x .3)
+      from-call (LdIo p d n) e p (processor.Ldio d n) (call.ldio (processor-at w p) p d n) (x .0) (refl, refl, ltb-true d 2 (x .1)) refl (has-word d n (x .1) (x .2)) refl refl (x .3)
   meets (StIo p d n v) e h =
       let x = three p (argument 1) (argument 2) (argument 3) (ltb d 2) (ltb n (length (words-of ma mb w d))) e h in
-      from-call (StIo p d n v) e p (processor.Stio d n v) (call.stio (processor-at w p) p d n v) (x .0) refl (has-word d n (x .1) (x .2)) refl refl (x .3)
+      from-call (StIo p d n v) e p (processor.Stio d n v) (call.stio (processor-at w p) p d n v) (x .0) (refl, refl, ltb-true d 2 (x .1)) refl (has-word d n (x .1) (x .2)) refl refl (x .3)
   meets (Collect p d) e h =
       let x = two p (argument 1) (argument 2) (ltb d 2) e h in
-      from-call (Collect p d) e p (processor.Collect d) (call.collect (processor-at w p) d) (x .0) refl tt refl refl (x .2)
+      from-call (Collect p d) e p (processor.Collect d) (call.collect (processor-at w p) d) (x .0) (refl, refl, ltb-true d 2 (x .1)) refl tt refl refl (x .2)
   meets (GiveUp p d) e h =
       let x = two p (argument 1) (argument 2) (ltb d 2) e h in
-      from-call (GiveUp p d) e p (processor.Give-up d) (call.give-up (processor-at w p) d) (x .0) refl tt refl refl (x .2)
-  meets (Act d) e h = from-act e d (passed-check (ltb d 2) (argument 1) (acted ma mb w d) e h .1)
+      from-call (GiveUp p d) e p (processor.Give-up d) (call.give-up (processor-at w p) d) (x .0) (refl, refl, ltb-true d 2 (x .1)) refl tt refl refl (x .2)
+  meets (Act d) e h =
+      let x = passed-check (ltb d 2) (argument 1) (acted ma mb w d) e h in
+      from-act e d (ltb-true d 2 (x .0)) (x .1)
   meets (Deliver i) e h =
       let x = passed-check (ltb i (length (w .messages))) (argument 1) (in-turn ma mb w i (oldest-of-pair (w .messages) i)) e h in
       from-oldest e i (oldest-of-pair (w .messages) i) (ltb-true i (length (w .messages)) (x .0)) refl (x .1)
   meets (Poll p) e h =
       let x = one p (argument 1) e h in
-      at-call p (x .0) processor.Poll (call.poll (processor-at w p)) refl tt refl refl (let same : by-processor w p (call.poll (processor-at w p)) ≡ e = cc in sym same)
+      at-call p (x .0) processor.Poll (call.poll (processor-at w p)) (refl, refl) refl tt refl refl (let same : by-processor w p (call.poll (processor-at w p)) ≡ e = cc in sym same)
