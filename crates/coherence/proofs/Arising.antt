@@ -1,9 +1,9 @@
 -- How an effect arises: one node reacts, to a call or to a message.
-use mathlib.Core.Bool.{Bool, true, false, cond, _&&_}
+use mathlib.Core.Bool.{Bool, true, false, cond}
 use mathlib.Core.Path.{_≡_, refl, sym}
-use Prim.Native.Nat.{ℕ, _-_, _<_}
+use Prim.Native.Nat.{ℕ, _<_}
 use native.Mathlib.Omega.{arith}
-use lib.Dec.{ltb, leb}
+use lib.Dec.{ltb}
 use Rattle.bridge.specs.Inputs as bridge
 use Rattle.bridge.specs.Reactions as bridge-reactions
 use Rattle.bridge.specs.declared.fault.DeviceFault.{DeviceFault}
@@ -11,7 +11,6 @@ use Rattle.bridge.specs.declared.state.Bridge.{Bridge}
 use Rattle.device.specs.Meaning.{Meaning}
 use Rattle.home.specs.Reactions as home
 use Rattle.home.specs.declared.machine.Home.{Home}
-use Rattle.message.specs.Nodes.{node-numbered}
 use Rattle.message.specs.declared.message.Message.{Message}
 use Rattle.message.specs.declared.node.Node.{Node}
 use Rattle.message.specs.declared.node.Node.the-variants as node
@@ -19,7 +18,6 @@ use Rattle.message.specs.declared.reaction.Reaction.{Reaction}
 use Rattle.processor.specs.Inputs as processor
 use Rattle.processor.specs.Receive as receipt
 use Rattle.processor.specs.declared.state.Processor.{Processor}
-use Rattle.std.proofs.shelf.Tests.{ltb-true, and-parts}
 use Rattle.std.specs.Options.{mapped}
 use Rattle.std.specs.declared.option.Option.{Option}
 use Rattle.std.specs.declared.option.Option.the-variants.{Some, None}
@@ -36,28 +34,6 @@ passed-check false f x r h = let z : _≡_ {A = ℕ} 0 1 = cc in absurd (let no-
 
 pub never : {A : Type 0} → _≡_ {A = ℕ} 0 1 → A
 never h = absurd (let no-way : ⊥ = omega arith in no-way)
-
--- where nodes are
-pub processor-node : (n p : ℕ) → node-numbered n ≡ node.Processor p → p < 4
-processor-node n p h = go (ltb n 4) (ltb n 6) (leb 16 n && ltb n 32) refl h
-  where
-    go : (x y z : Bool) → ltb n 4 ≡ x → cond x (node.Processor n) (cond y (node.Device (n - 4)) (cond z (node.Home (n - 16)) node.Nowhere)) ≡ node.Processor p → p < 4
-    go true y z small h = let same : n ≡ p = cc in let lt = ltb-true n 4 small in omega arith
-    go false true z small h = never cc
-    go false false true small h = never cc
-    go false false false small h = never cc
-
-pub home-node-at : (n b : ℕ) → node-numbered n ≡ node.Home b → b < 16
-home-node-at n b h = go (ltb n 4) (ltb n 6) (leb 16 n && ltb n 32) refl h
-  where
-    go : (x y z : Bool) → (leb 16 n && ltb n 32) ≡ z → cond x (node.Processor n) (cond y (node.Device (n - 4)) (cond z (node.Home (n - 16)) node.Nowhere)) ≡ node.Home b → b < 16
-    go true y z small h = never cc
-    go false true z small h = never cc
-    go false false true small h =
-        let same : n - 16 ≡ b = cc in
-        let lt = ltb-true n 32 (and-parts (leb 16 n) (ltb n 32) small .1) in
-        omega arith
-    go false false false small h = never cc
 
 -- what came of something that came
 pub came : {X Y : Type 0} (f : X → Y) (o : Option X) (y : Y) → mapped f o ≡ Some y → (x : X) × (o ≡ Some x) × (y ≡ f x)

@@ -24,9 +24,8 @@ use Rattle.std.proofs.shelf.Tests.{and-from, lt-ltb, both-ways, cases-eq}
 use Rattle.std.specs.Slices.{found}
 use Rattle.std.specs.declared.option.Option.{Option}
 use Rattle.std.specs.shelf.Lists.{All}
-use Rattle.coherence.proofs.Arising.{arises}
 use Rattle.coherence.proofs.Clocks.{Shape}
-use Rattle.coherence.proofs.FormsArising.{Meets, at-call, at-first-wish, at-second-wish, to-processor, to-home, to-first, to-second, meets}
+use Rattle.coherence.proofs.Meeting.{Meets, at-call, at-first-wish, at-second-wish, to-processor, to-home, to-first, to-second, meets, meets-arises}
 use Rattle.coherence.proofs.FormsBridges.{bridge-sends}
 use Rattle.coherence.proofs.FormsBuilt.{Well}
 use Rattle.coherence.proofs.FormsFigures.{figures-kept}
@@ -36,6 +35,8 @@ use Rattle.coherence.proofs.FormsNumbers.{Numbers-within, numbers-kept, number
 use Rattle.coherence.proofs.FormsProcessors.{processor-sends}
 use Rattle.coherence.proofs.Running.{over-calls, shape-kept, shape-made}
 use Rattle.coherence.proofs.Stepping.{steps}
+use Rattle.coherence.proofs.Rising.{all-nth}
+use Rattle.coherence.specs.Promise.{Messages-are-formed}
 use Rattle.coherence.specs.Histories.{began, run}
 use Rattle.coherence.specs.Makings.{Making, make, block-words}
 use Rattle.coherence.specs.Steps.{Effect, figures, waiting, step}
@@ -129,7 +130,7 @@ module _ {A B : Type 0} (ma : Meaning A) (mb : Meaning B) where
     formed-kept : (f : Figures) (c : Call) (w : World A B) → Formed f w → Formed f (step ma mb c w .1)
     formed-kept f c w t = steps ma mb (Formed f) c w t (λ e fit is within.
         let ms = waiting ma mb c w in
-        let a = arises ma mb w (t .shape .few fit) c e is in
+        let a = meets-arises ma mb w (t .shape .few fit) c e (meets ma mb w c e is) in
         let known : Homes-well (figures ma mb w) w = subst (λ (g : Figures). Homes-well g w) (sym (t .same)) (t .homes) in
         let good : Good f e = subst (λ (g : Figures). Good g e) (t .same) (effect-good w (t .shape) (t .shape .few fit) known c e (meets ma mb w c e is) within) in
         record {
@@ -161,3 +162,7 @@ module _ {A B : Type 0} (ma : Meaning A) (mb : Meaning B) where
     pub waiting-are-well-formed : (k : Making A B) (calls : List Call) → All (Well (figures ma mb (run ma mb k calls .world))) (run ma mb k calls .world .messages)
     waiting-are-well-formed k calls =
         subst (λ (g : Figures). All (Well g) (run ma mb k calls .world .messages)) (sym (figures-stay k calls)) (formed k calls .messages)
+
+    pub messages-are-formed : Messages-are-formed ma mb
+    messages-are-formed k calls m stands =
+        all-nth (Well (figures ma mb (run ma mb k calls .world))) (run ma mb k calls .world .messages) (stands .0) m (waiting-are-well-formed k calls) (stands .1)

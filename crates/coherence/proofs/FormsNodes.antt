@@ -5,7 +5,7 @@ use mathlib.Core.Path.{_≡_, refl, subst}
 use Prim.Native.Nat.{ℕ, _-_, _<_}
 use native.Mathlib.Omega.{arith}
 use lib.Dec.{eqb, ltb, leb}
-use Rattle.message.specs.Checks.{has-processor, word-count, end-fits, fits, well-formed}
+use Rattle.message.specs.Checks.{has-processor, word-count, end-fits, fits}
 use Rattle.message.specs.Forms.{form-of}
 use Rattle.message.specs.Nodes.{device-node, home-node, is-device, node-numbered}
 use Rattle.message.specs.declared.figures.Figures.{Figures}

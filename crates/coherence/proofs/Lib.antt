@@ -4,9 +4,7 @@ pub mod Clocks
 pub mod Counting
 pub mod Dating
 pub mod DeviceWords
-pub mod Happening
 pub mod Forms
-pub mod FormsArising
 pub mod FormsBridges
 pub mod FormsBuilt
 pub mod FormsFigures
@@ -16,6 +14,7 @@ pub mod FormsNodes
 pub mod FormsNumbers
 pub mod FormsProcessors
 pub mod HomeClocks
+pub mod Meeting
 pub mod Reading
 pub mod Rising
 pub mod Running

@@ -11,7 +11,7 @@ use Rattle.std.proofs.shelf.Tests.{and-parts, leb-true}
 use Rattle.std.specs.declared.result.Result.the-variants.{Ok, Err}
 use Rattle.std.specs.shelf.Lists.{All}
 use Rattle.coherence.proofs.Arising.{Arises, at-processor, at-home, at-first, at-second}
-use Rattle.coherence.proofs.Happening.{happens, happens-arises}
+use Rattle.coherence.proofs.Meeting.{meets, meets-arises}
 use Rattle.coherence.proofs.Clocks.{Shape}
 use Rattle.coherence.proofs.Dating.{Dated, dates, differs}
 use Rattle.coherence.proofs.Rising.{Apart, unique-stamps}
@@ -64,7 +64,7 @@ module _ {A B : Type 0} (ma : Meaning A) (mb : Meaning B) where
 
   timed-kept : (c : Call) (w : World A B) → Timed w → Timed (step ma mb c w .1)
   timed-kept c w t = steps ma mb Timed c w t (λ e fit is within.
-      let a = happens-arises ma mb w (t .shape .few fit) (waiting ma mb c w) e (happens ma mb w c e is) in
+      let a = meets-arises ma mb w (t .shape .few fit) c e (meets ma mb w c e is) in
       let time = timely w (t .shape) ma mb e a in
       record {
         shape = shape-kept w (waiting ma mb c w) e (t .shape) a;

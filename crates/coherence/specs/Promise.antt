@@ -6,6 +6,7 @@ use Prim.Native.Nat.{ℕ, _<_}
 use lib.Dec.{eqb}
 use lib.ListN.{getD}
 use Rattle.device.specs.Meaning.{Meaning}
+use Rattle.message.specs.Checks.{well-formed}
 use Rattle.message.specs.Nodes.{is-device}
 use Rattle.message.specs.declared.message.Message.{Message}
 use Rattle.ordering.specs.Operations.{is-read}
@@ -23,7 +24,7 @@ use Rattle.trail.specs.declared.address.Address.{Address}
 use Rattle.trail.specs.declared.entry.Entry.{Entry}
 use Rattle.coherence.specs.Histories.{History, Issued, Told, run}
 use Rattle.coherence.specs.Makings.{Making}
-use Rattle.coherence.specs.Steps.{delivered}
+use Rattle.coherence.specs.Steps.{delivered, figures}
 use Rattle.coherence.specs.Worlds.{World}
 use Rattle.coherence.specs.declared.call.Call.{Call}
 
@@ -100,6 +101,12 @@ module _ {A B : Type 0} (ma : Meaning A) (mb : Meaning B) (k : Making A B) where
 abbrev pub Order-promise : {A B : Type 0} → Meaning A → Meaning B → Type 0
 Order-promise {A} {B} ma mb = (k : Making A B) (calls : List Call) → Order-kept ma mb k (run ma mb k calls)
 
--- The part of it that stands so far: in every run, no two entries have one stamp.
+-- Steps towards it. In every run, no two entries have one stamp,
 abbrev pub Stamps-are-unique : {A B : Type 0} → Meaning A → Meaning B → Type 0
 Stamps-are-unique {A} {B} ma mb = (k : Making A B) (calls : List Call) → Own-stamps (run ma mb k calls .world .trail)
+
+-- and every waiting message is well formed on its board.
+abbrev pub Messages-are-formed : {A B : Type 0} → Meaning A → Meaning B → Type 0
+Messages-are-formed {A} {B} ma mb =
+    (k : Making A B) (calls : List Call) (m : Message ℕ) → Stands (run ma mb k calls .world .messages) m
+    → well-formed (figures ma mb (run ma mb k calls .world)) m ≡ true

@@ -1,7 +1,7 @@
 -- How an effect arises, with what was checked before: arguments in range, and a well-formed message that goes to its receiver.
 use mathlib.Core.Bool.{Bool, true, false, cond}
 use mathlib.Core.Path.{_≡_, refl, sym, ap, subst, _∙_}
-use Prim.Native.Nat.{ℕ, _<_}
+use Prim.Native.Nat.{ℕ, _<_, _≤_}
 use native.Mathlib.Omega.{arith}
 use lib.Dec.{ltb}
 use lib.ListN.{length, getD}
@@ -33,7 +33,7 @@ use Rattle.std.specs.declared.option.Option.{Option}
 use Rattle.std.specs.declared.option.Option.the-variants.{Some, None}
 use Rattle.std.specs.declared.result.Result.{Result}
 use Rattle.std.specs.declared.result.Result.the-variants.{Ok, Err}
-use Rattle.coherence.proofs.Arising.{passed-check, never}
+use Rattle.coherence.proofs.Arising.{Arises, allowed, at-first, at-home, at-processor, at-second, came, from-wish, never, passed-check, reacted}
 use Rattle.coherence.proofs.FormsBuilt.{Well}
 use Rattle.coherence.proofs.FormsNodes.{processor-number, device-number, home-number, receiver-on-board}
 use Rattle.coherence.proofs.FormsProcessors.{Allowed}
@@ -78,24 +78,10 @@ module _ {A B : Type 0} (ma : Meaning A) (mb : Meaning B) (w : World A B) where
     to-first : (m : Message ℕ) (r : Reaction (Bridge A ℕ)) → Goes c m (device-node 0) → bridge.reaction ma 0 (w .first) (bridge.Receive m) ≡ Some r → e ≡ by-first w r → Meets c e
     to-second : (m : Message ℕ) (r : Reaction (Bridge B ℕ)) → Goes c m (device-node 1) → bridge.reaction mb 1 (w .second) (bridge.Receive m) ≡ Some r → e ≡ by-second w r → Meets c e
 
-  -- what came of something that came
-  came : {X Y : Type 0} (f : X → Y) (o : Option X) (y : Y) → mapped f o ≡ Some y → (x : X) × (o ≡ Some x) × (y ≡ f x)
-  came f None y h = never cc
-  came f (Some x) y h = (x, refl, let same : f x ≡ y = cc in sym same)
-
-  allowed : {X : Type 0} (b : Bool) (o : Option X) (x : X) → cond b o None ≡ Some x → (b ≡ true) × (o ≡ Some x)
-  allowed true o x h = (refl, h)
-  allowed false o x h = never cc
-
   from-call : (c : Call) (e : Effect A B) (p : ℕ) (i : processor.Input) (x : Result (Reaction (Processor ℕ)) Refusal) → p < w .count → Asks c p i → processor.message-of i ≡ None → Allowed (figures ma mb w) i
       → waiting ma mb c w ≡ w .messages → processor.reaction (processor-at w p) p i ≡ processor.accepted x → called w p x ≡ Ok e → Meets c e
   from-call c e p i (Ok r) small asks own ok rest is h = at-call p small i r asks own ok rest is (let same : by-processor w p r ≡ e = cc in sym same)
   from-call c e p i (Err f) small asks own ok rest is h = never cc
-
-  from-wish : {S : Type 0} (e : Effect A B) (by : Reaction (Bridge S ℕ) → Effect A B) (x : Result (Reaction (Bridge S ℕ)) DeviceFault) → wished by x ≡ Ok e
-      → (r : Reaction (Bridge S ℕ)) × (x ≡ Ok r) × (e ≡ by r)
-  from-wish e by (Ok r) h = (r, refl, let same : by r ≡ e = cc in sym same)
-  from-wish e by (Err f) h = never cc
 
   wish-done : {S : Type 0} (x : Result (Reaction (Bridge S ℕ)) DeviceFault) (r : Reaction (Bridge S ℕ)) → x ≡ Ok r → elim x [ Ok r ↦ Some r | Err f ↦ None ] ≡ Some r
   wish-done x r is = rw is refl
@@ -107,25 +93,13 @@ module _ {A B : Type 0} (ma : Meaning A) (mb : Meaning B) (w : World A B) where
       go true low h =
           let lt = ltb-true d 1 low in
           let zero : d ≡ 0 = omega arith in
-          let x = from-wish e (by-first w) (bridge-reactions.act ma 0 (w .count) (w .first)) h in
+          let x = from-wish ma mb w e (by-first w) (bridge-reactions.act ma 0 (w .count) (w .first)) h in
           at-first-wish (x .0) (ap Act zero) (wish-done (bridge-reactions.act ma 0 (w .count) (w .first)) (x .0) (x .1)) (x .2)
       go false high h =
           let le = ltb-false d 1 high in
           let one : d ≡ 1 = omega arith in
-          let x = from-wish e (by-second w) (bridge-reactions.act mb 1 (w .count) (w .second)) h in
+          let x = from-wish ma mb w e (by-second w) (bridge-reactions.act mb 1 (w .count) (w .second)) h in
           at-second-wish (x .0) (ap Act one) (wish-done (bridge-reactions.act mb 1 (w .count) (w .second)) (x .0) (x .1)) (x .2)
-
-  abbrev reacted : Message ℕ → Node → Option (Effect A B)
-  reacted m n =
-      elim n [
-        | node.Nowhere ↦ None
-        | node.Processor p ↦ mapped (by-processor w p) (receipt.receive (processor-at w p) p m)
-        | node.Device d ↦
-            cond (ltb d 1)
-            (mapped (by-first w) (bridge-reactions.receive ma 0 (w .first) m))
-            (mapped (by-second w) (bridge-reactions.receive mb 1 (w .second) m))
-        | node.Home b ↦ mapped (by-home w b) (home.received (home-at w b) b m)
-      ]
 
   module _ (i : ℕ) (there : i < length (w .messages)) (turn : oldest-of-pair (w .messages) i ≡ None) where
     abbrev message : Message ℕ
@@ -134,7 +108,7 @@ module _ {A B : Type 0} (ma : Meaning A) (mb : Meaning B) (w : World A B) where
     goes : (to : ℕ) → Well (figures ma mb w) message → message .receiver ≡ to → Goes (Deliver i) message to
     goes to well is = record { at = i; call = refl; there = there; turn = turn; is = refl; well = well; receiver = is }
 
-    from-node : (e : Effect A B) (n : Node) → Well (figures ma mb w) message → node-numbered (message .receiver) ≡ n → reacted message n ≡ Some e → Meets (Deliver i) e
+    from-node : (e : Effect A B) (n : Node) → Well (figures ma mb w) message → node-numbered (message .receiver) ≡ n → reacted ma mb w message n ≡ Some e → Meets (Deliver i) e
     from-node e node.Nowhere well at h = never cc
     from-node e (node.Processor p) well at h =
         let x = came (by-processor w p) (receipt.receive (processor-at w p) p message) e h in
@@ -166,7 +140,7 @@ module _ {A B : Type 0} (ma : Meaning A) (mb : Meaning B) (w : World A B) where
     from-delivery e None is h = never cc
     from-delivery e (Some f) is h =
         let same : f ≡ e = cc in
-        let ok = allowed (well-formed (figures ma mb w) message) (reacted message (node-numbered (message .receiver))) e (is ∙ ap Some same) in
+        let ok = allowed (well-formed (figures ma mb w) message) (reacted ma mb w message (node-numbered (message .receiver))) e (is ∙ ap Some same) in
         from-node e (node-numbered (message .receiver)) (ok .0) refl (ok .1)
 
   from-oldest : (e : Effect A B) (i : ℕ) (o : Option ℕ) → i < length (w .messages) → oldest-of-pair (w .messages) i ≡ o → in-turn ma mb w i o ≡ Ok e → Meets (Deliver i) e
@@ -230,3 +204,13 @@ module _ {A B : Type 0} (ma : Meaning A) (mb : Meaning B) (w : World A B) where
   meets (Poll p) e h =
       let x = one p (argument 1) e h in
       at-call p (x .0) processor.Poll (call.poll (processor-at w p)) (refl, refl) refl tt refl refl (let same : by-processor w p (call.poll (processor-at w p)) ≡ e = cc in sym same)
+
+  -- and so one node reacts
+  pub meets-arises : w .count ≤ 4 → (c : Call) (e : Effect A B) → Meets c e → Arises ma mb w e
+  meets-arises four c e (at-call p small i r asks own ok rest h is) = at-processor p (omega arith) i r h is
+  meets-arises four c e (at-first-wish r call h is) = at-first (bridge.Act (w .count)) r h is
+  meets-arises four c e (at-second-wish r call h is) = at-second (bridge.Act (w .count)) r h is
+  meets-arises four c e (to-processor p small m r goes h is) = at-processor p (omega arith) (processor.Receive m) r h is
+  meets-arises four c e (to-home b small m r goes h is) = at-home b small m r h is
+  meets-arises four c e (to-first m r goes h is) = at-first (bridge.Receive m) r h is
+  meets-arises four c e (to-second m r goes h is) = at-second (bridge.Receive m) r h is
