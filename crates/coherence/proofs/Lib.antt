@@ -19,6 +19,7 @@ pub mod Reading
 pub mod Rising
 pub mod Running
 pub mod Seats
+pub mod Slots
 pub mod Stepping
 pub mod Tables
 pub mod Tally
