@@ -1,10 +1,10 @@
 -- What a home sends is well formed, and what it keeps stays so.
 use mathlib.Core.Bool.{Bool, true, false, cond, _&&_}
-use mathlib.Core.List.{List, _∷_}
 use mathlib.Core.Path.{_≡_, refl}
 use Prim.Native.Nat.{ℕ, _<_}
 use native.Mathlib.Omega.{arith}
 use lib.Dec.{ltb, leb}
+use Rattle.home.proofs.Back.{one-more}
 use Rattle.home.specs.Directories.{view, awaits}
 use Rattle.home.specs.Laws.{is-free}
 use Rattle.home.specs.Plans.{plan}
@@ -21,7 +21,7 @@ use Rattle.message.specs.Forms.{row, returned}
 use Rattle.message.specs.Kinds.{same-kind, is-request}
 use Rattle.message.specs.Messages.{plain}
 use Rattle.message.specs.Nodes.{home-node}
-use Rattle.message.specs.Reactions.{gathered, sent, quiet}
+use Rattle.message.specs.Reactions.{sent, quiet}
 use Rattle.message.specs.declared.figures.Figures.{Figures}
 use Rattle.message.specs.declared.kind.Kind.{Kind}
 use Rattle.message.specs.declared.kind.Kind.the-variants as kind
@@ -42,11 +42,6 @@ use Rattle.coherence.proofs.FormsKept.{Request-well, On-board, Home-well, requ
 pub record Home-good (f : Figures) (b : ℕ) (x : Reaction (Home ℕ)) : Type 0 where
   pub next : Home-well f b (x .next)
   pub sends : is-within (x .next .clock) ≡ true → All (Well f) (sent (x .sent))
-
--- each message of an outbox
-one-more : (Q : Message ℕ → Type 0) (o : Option (Message ℕ)) (os : List (Option (Message ℕ))) → found o Q → All Q (gathered os) → All Q (gathered (o ∷ os))
-one-more Q None os f a = a
-one-more Q (Some m) os f a = (f, a)
 
 abbrev reply-as : Kind → ℕ → ℕ → Words → ℕ → Message ℕ
 reply-as k n b w c = record {

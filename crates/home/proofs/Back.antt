@@ -36,7 +36,8 @@ no-reply k = grind (arith, tells)
 no-question : (k : Kind) → same-kind (asks-by k) Nack ≡ false
 no-question k = grind (arith, tells)
 
-one-more : (Q : Message ℕ → Type 0) (o : Option (Message ℕ)) (os : List (Option (Message ℕ))) → found o Q → All Q (gathered os) → All Q (gathered (o ∷ os))
+-- each message of an outbox
+pub one-more : (Q : Message ℕ → Type 0) (o : Option (Message ℕ)) (os : List (Option (Message ℕ))) → found o Q → All Q (gathered os) → All Q (gathered (o ∷ os))
 one-more Q None os f a = a
 one-more Q (Some m) os f a = (f, a)
 
