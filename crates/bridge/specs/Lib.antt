@@ -2,6 +2,7 @@ pub mod Acts
 pub mod Deeds
 pub mod Faults
 pub mod Inputs
+pub mod Laws
 pub mod Plans
 pub mod Reactions
 pub mod Receipts

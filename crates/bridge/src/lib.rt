@@ -3,6 +3,7 @@
 
 pub mod act;
 pub mod fault;
+pub mod laws;
 pub mod perform;
 pub mod plan;
 pub mod receive;

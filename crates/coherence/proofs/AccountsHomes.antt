@@ -1,7 +1,7 @@
 -- What a home does, sends and serves has the access that was issued under its number: that of a request which came or of
 -- the one that it served.
 use Rattle.std.proofs.Common.{◌≡◌, ℕ, true, false, IfSome, Some, None, Option, sym, refl, ap, ◌∙◌, subst, arith}
-use Rattle.laws.proofs.HomeBack.{one_more}
+use Rattle.home.proofs.Back.{one_more}
 use Rattle.home.specs.Directories.{awaits}
 use Rattle.home.specs.Reactions.{acknowledged, after_hearing, ask_one, asked, asks, awaits_taken, began, clock_after, entry_for, finished, heard_home, received, refused, reply, taken, words_after}
 use Rattle.home.specs.Requests.{asks_by, request_of}

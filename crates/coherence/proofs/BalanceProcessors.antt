@@ -7,7 +7,7 @@ use Rattle.message.specs.declared.kind.Kind.{Kind}
 use Rattle.message.specs.declared.message.Message.{Message}
 use Rattle.message.specs.declared.reaction.Reaction.{Reaction}
 use Rattle.processor.specs.Inputs.{reaction, message_of, Load, Store, Request, Ldio, Stio, Collect, GiveUp, Poll, Receive}
-use Rattle.laws.specs.Processors.{EachReaction}
+use Rattle.processor.specs.Laws.{EachReaction}
 use Rattle.processor.specs.Calls.{fits}
 use Rattle.processor.specs.Lines.{line_at}
 use Rattle.processor.specs.declared.line.Line.{Line}

@@ -1,8 +1,8 @@
 -- Over every run, in trail order: stamps rise between conflicting entries, and every read has the current words. So every read
 -- is current by stamps.
 use Rattle.std.proofs.Common.{◌≡◌, ℕ, ◌+◌, ◌<◌, Bool, true, false, cond, ◌||◌, eqb, ltb, ◌⊎◌, List, ◌++◌, get_or, Some, filter, Option, sym, refl, ap, ◌∙◌, subst, inl, inr, ⊎_elim, arith}
-use Rattle.laws.proofs.BridgeClocks as bridge
-use Rattle.laws.proofs.BridgeWriting as bridge_writing
+use Rattle.bridge.proofs.Clocks as bridge
+use Rattle.bridge.proofs.Writing as bridge_writing
 use Rattle.bridge.specs.Inputs as bridge_input
 use Rattle.bridge.specs.declared.state.Bridge.{Bridge}
 use Rattle.device.specs.Meaning.{Meaning, Laws}

@@ -1,8 +1,8 @@
 -- A device's words are the current values of its space: only an STio in it writes there, and it writes the device's word.
 use Rattle.std.proofs.Common.{◌≡◌, ℕ, ◌/◌, ◌%◌, ◌<◌, Bool, true, false, cond, ◌&&◌, ◌||◌, eqb, ◌⊎◌, List, ◌++◌, length, get_or, set, Some, None, Option, sym, refl, ap, ◌∙◌, subst, inl, inr, arith}
-use Rattle.laws.proofs.BridgeClocks as bridge
-use Rattle.laws.proofs.BridgeWriting as bridge_writing
-use Rattle.laws.specs.Bridges.{rewritten}
+use Rattle.bridge.proofs.Clocks as bridge
+use Rattle.bridge.proofs.Writing as bridge_writing
+use Rattle.bridge.specs.Laws.{rewritten}
 use Rattle.device.specs.Meaning.{Meaning, Laws}
 use Rattle.home.specs.Reactions.{received}
 use Rattle.message.specs.declared.message.Message.{Message}
@@ -11,7 +11,7 @@ use Rattle.ordering.specs.Words.{first_word}
 use Rattle.ordering.specs.declared.operation.Operation.{Operation}
 use Rattle.ordering.specs.declared.operation.Operation.TheVariants.{Ld, St, LdIo, StIo, Int, LdBlk, StBlk}
 use Rattle.ordering.specs.declared.operation.Words.{Words}
-use Rattle.laws.specs.Processors.{EachReaction}
+use Rattle.processor.specs.Laws.{EachReaction}
 use Rattle.std.proofs.lemmas.List.{append-nil, get_or-set_same, get_or-set_other}
 use Rattle.std.proofs.lemmas.Bool.{cases_eq, ne_eqb, eq-eqb, false≢true}
 use Rattle.std.proofs.lemmas.Bool.Decides.{nat_tests}

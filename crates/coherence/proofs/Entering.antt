@@ -1,7 +1,7 @@
 -- The entry that an effect adds: on memory it is above all that conflicts with it and has the current words, and so it is in a
 -- device's space; so in trail order stamps rise between conflicting entries, and reads are current.
 use Rattle.std.proofs.Common.{◌≡◌, ℕ, ◌/◌, ◌<◌, Bool, true, false, cond, eqb, Some, None, sym, refl, ap, ◌∙◌, subst, arith}
-use Rattle.laws.proofs.BridgeClocks as bridge
+use Rattle.bridge.proofs.Clocks as bridge
 use Rattle.bridge.specs.Inputs as bridge_input
 use Rattle.device.specs.Meaning.{Meaning}
 use Rattle.home.specs.Reactions.{received}
@@ -12,7 +12,7 @@ use Rattle.ordering.specs.Stamps.{below}
 use Rattle.ordering.specs.declared.operation.Operation.TheVariants.{LdIo, StIo}
 use Rattle.ordering.specs.declared.stamp.Stamp.{Stamp}
 use Rattle.processor.specs.Inputs as processor
-use Rattle.laws.specs.Processors.{EachReaction}
+use Rattle.processor.specs.Laws.{EachReaction}
 use Rattle.std.proofs.lemmas.Bool.{and_from, and_parts, eq-eqb, eqb-true}
 use Rattle.std.proofs.lemmas.Bool.Decides.{nat_tests}
 use Rattle.trail.specs.Addresses.{covers}

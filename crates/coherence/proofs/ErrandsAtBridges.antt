@@ -1,6 +1,6 @@
 -- What effects at bridges do to the operations under way; and so every effect.
 use Rattle.std.proofs.Common.{◌≡◌, ℕ, ◌<◌, ◌≤◌, Bool, true, ◌||◌, ◌⊎◌, List, get_or, Some, None, sym, refl, ap, ◌∙◌, subst, inl, inr, ⊎_elim, arith}
-use Rattle.laws.proofs.BridgeClocks as bridge_clocks
+use Rattle.bridge.proofs.Clocks as bridge_clocks
 use Rattle.bridge.specs.Inputs as bridge
 use Rattle.bridge.specs.declared.state.Bridge.{Bridge}
 use Rattle.device.specs.Meaning.{Meaning}

@@ -1,7 +1,7 @@
 -- What each reaction of a home does to the operations under way: it gives a request back, gathers for it, or does it.
 use Rattle.std.proofs.Common.{◌≡◌, ℕ, ◌<◌, true, false, eqb, ◌⊎◌, IfSome, Some, None, Option, sym, refl, ◌∙◌, inl, inr, arith}
-use Rattle.laws.proofs.HomeBack.{one_more}
-use Rattle.laws.proofs.HomeKeeps.{by_rule}
+use Rattle.home.proofs.Back.{one_more}
+use Rattle.home.proofs.Keeps.{by_rule}
 use Rattle.home.specs.Directories.{awaits}
 use Rattle.home.specs.Reactions.{clock_after, words_after, finished, reply, nack, asks, ask_one, asked, began, heard_home, after_hearing, awaits_taken, received}
 use Rattle.home.specs.Requests.{request_of, asks_by}

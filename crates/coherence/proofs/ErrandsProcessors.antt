@@ -8,9 +8,9 @@ use Rattle.message.specs.declared.message.Message.{Message}
 use Rattle.message.specs.declared.reaction.Reaction.{Reaction}
 use Rattle.ordering.specs.Orders.{is_io}
 use Rattle.ordering.specs.Words.{first_word}
-use Rattle.laws.proofs.Tables.{put_read}
+use Rattle.processor.proofs.Tables.{put_read}
 use Rattle.processor.specs.Inputs.{Input, reaction, message_of}
-use Rattle.laws.specs.Processors.{EachReaction}
+use Rattle.processor.specs.Laws.{EachReaction}
 use Rattle.processor.specs.Slots.{slot_at}
 use Rattle.processor.specs.declared.slot.Slot.{Slot}
 use Rattle.processor.specs.declared.slot.Slot.TheVariants.{Free, Came}

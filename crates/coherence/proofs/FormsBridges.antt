@@ -1,6 +1,6 @@
 -- What a bridge sends is well formed, whatever its device wishes.
 use Rattle.std.proofs.Common.{◌≡◌, ℕ, ◌+◌, ◌<◌, ◌≤◌, true, false, ◌&&◌, eqb, ltb, leb, IfSome, Some, None, Ok, Err, Option, Result, sym, refl, subst, arith}
-use Rattle.laws.proofs.BridgeWriting.{plans_are_kept}
+use Rattle.bridge.proofs.Writing.{plans_are_kept}
 use Rattle.bridge.specs.Acts.{Decision, any_out, numbering, own, wish_message, interrupt, request, act_on, act_plan}
 use Rattle.bridge.specs.Acts as acts
 use Rattle.bridge.specs.Deeds.{word_at, value_of, deed_done, performed}

@@ -1,8 +1,8 @@
 -- The figures of a board stay: no call adds a processor, and no device gains or loses a word.
 use Rattle.std.proofs.Common.{◌≡◌, ℕ, List, [], ◌∷◌, length, Some, None, Option, sym, refl, ap, ◌∙◌, subst, length-set}
-use Rattle.laws.proofs.BridgeWriting.{only_stores_write}
+use Rattle.bridge.proofs.Writing.{only_stores_write}
 use Rattle.bridge.specs.Inputs as bridge
-use Rattle.laws.specs.Bridges.{rewritten}
+use Rattle.bridge.specs.Laws.{rewritten}
 use Rattle.bridge.specs.declared.state.Bridge.{Bridge}
 use Rattle.device.specs.Meaning.{Meaning, Laws}
 use Rattle.message.specs.declared.message.Message.{Message}

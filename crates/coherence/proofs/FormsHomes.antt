@@ -1,8 +1,8 @@
 -- What a home sends is well formed, and what it keeps stays so.
 use Rattle.std.proofs.Common.{◌≡◌, ℕ, ◌<◌, Bool, true, false, cond, ◌&&◌, ltb, leb, IfSome, Some, None, Option, refl, arith}
-use Rattle.laws.proofs.HomeBack.{one_more}
+use Rattle.home.proofs.Back.{one_more}
 use Rattle.home.specs.Directories.{view, awaits}
-use Rattle.laws.specs.Homes.{is_free}
+use Rattle.home.specs.Laws.{is_free}
 use Rattle.home.specs.Plans.{plan}
 use Rattle.home.specs.Reactions.{clock_after, words_after, reply, finished, nack, refused, ask_one, asks, began, asked, planned, heard_home, after_hearing, acknowledged, awaits_taken, taken, received}
 use Rattle.home.specs.Requests.{request_of, asks_down, asks_by, reply_kind, carries_words, gives_copy}

@@ -1,6 +1,6 @@
 -- What a home keeps is well formed: the request that it has taken, and holders and awaited that are the board's.
 use Rattle.std.proofs.Common.{◌≡◌, ℕ, zero, suc, Bool, true, false, None, Option, sym, refl, ◌∙◌, subst, ⊎_elim, arith}
-use Rattle.laws.specs.Homes.{is_free}
+use Rattle.home.specs.Laws.{is_free}
 use Rattle.home.specs.Plans.{plan, column, newcomer, holder, at_once, ask_others}
 use Rattle.home.specs.Requests.{request_of, gives_copy}
 use Rattle.home.specs.Sets.{nobody, has, with_member}
@@ -20,7 +20,7 @@ use Rattle.message.specs.declared.figures.Figures.{Figures}
 use Rattle.message.specs.declared.kind.Kind.{Kind}
 use Rattle.message.specs.declared.kind.Kind.TheVariants as kind
 use Rattle.message.specs.declared.message.Message.{Message}
-use Rattle.laws.proofs.Tables.{put_read}
+use Rattle.processor.proofs.Tables.{put_read}
 use Rattle.std.proofs.lemmas.Bool.{cond_both, both_ways, or_left, cases_Bool}
 use Rattle.std.proofs.lemmas.Bool.Decides.{nat_tests}
 use Rattle.coherence.proofs.FormsBuilt.{Well, Fits, as_row}

@@ -1,6 +1,6 @@
 -- A home's clock: it stays or passes, and its operation is stamped with it.
 use Rattle.std.proofs.Common.{◌≡◌, ℕ, ◌<◌, max, true, false, ◌⊎◌, is_some, IfSome, Some, None, Option, refl, ap, ◌∙◌, inl, inr, arith}
-use Rattle.laws.proofs.HomeKeeps.{by_rule}
+use Rattle.home.proofs.Keeps.{by_rule}
 use Rattle.home.specs.Directories.{awaits}
 use Rattle.home.specs.Reactions.{clock_after, entry_for, finished, refused, began, heard_home, after_hearing, clock_freed, awaits_taken, received, words_after}
 use Rattle.home.specs.Requests.{operation_for, request_of}

@@ -1,7 +1,7 @@
 -- What a home does is, for its block, one move or two, and nothing for any other.
 use Rattle.std.proofs.Common.{◌≡◌, ℕ, true, false, ◌||◌, eqb, [], IfSome, Some, None, filter, Option, sym, refl, ◌∙◌, subst, arith}
-use Rattle.laws.proofs.HomeBack.{one_more}
-use Rattle.laws.proofs.HomeKeeps.{by_rule}
+use Rattle.home.proofs.Back.{one_more}
+use Rattle.home.proofs.Keeps.{by_rule}
 use Rattle.home.specs.Directories.{view, awaits}
 use Rattle.home.specs.Homes.{home}
 use Rattle.home.specs.Plans.{plan}

@@ -10,7 +10,7 @@ use Rattle.bridge.specs.declared.plan.Deed.{Deed}
 use Rattle.bridge.specs.declared.plan.Deed.TheVariants.{Request, Land, Finish, Resend}
 use Rattle.bridge.specs.declared.plan.Plan.{Plan}
 use Rattle.bridge.specs.declared.state.Bridge.{Bridge}
-use Rattle.laws.proofs.BridgeClocks.{entries_are_stamped}
+use Rattle.bridge.proofs.Clocks.{entries_are_stamped}
 use Rattle.device.specs.Meaning.{Meaning, Laws}
 use Rattle.device.specs.declared.meaning.Wish.{Wish}
 use Rattle.message.proofs.Numbering.{numbers_tell_kinds}

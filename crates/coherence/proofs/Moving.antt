@@ -2,7 +2,7 @@
 use Rattle.std.proofs.Common.{◌≡◌, ℕ, ◌<◌, ◌≤◌, true, cond, eqb, ltb, ◌⊎◌, List, length, Some, sym, refl, ap, ◌∙◌, subst, inl, inr, arith}
 use Rattle.bridge.specs.declared.state.Bridge.{Bridge}
 use Rattle.device.specs.Meaning.{Meaning, Laws}
-use Rattle.laws.specs.Homes.{is_free}
+use Rattle.home.specs.Laws.{is_free}
 use Rattle.home.specs.Reactions.{received}
 use Rattle.home.specs.declared.machine.Home.{Home}
 use Rattle.list.specs.Contents.{removed}

@@ -2,8 +2,8 @@
 use Rattle.std.proofs.Common.{◌≡◌, ℕ, zero, suc, ◌+◌, ◌<◌, Bool, false, List, [], ◌∷◌, ◌++◌, length, get_or, set, IfSome, Some, None, Option, ap, ◌∙◌, arith}
 use Rattle.bridge.specs.Inputs as bridge
 use Rattle.device.specs.Meaning.{Meaning}
-use Rattle.laws.proofs.HomeBack.{one_more}
-use Rattle.laws.proofs.HomeKeeps.{by_rule}
+use Rattle.home.proofs.Back.{one_more}
+use Rattle.home.proofs.Keeps.{by_rule}
 use Rattle.home.specs.Directories.{awaits}
 use Rattle.home.specs.Reactions.{ask_one, asks, awaits_taken, began, finished, heard_home, nack, received, reply}
 use Rattle.home.specs.Requests.{asks_by, request_of}
@@ -19,7 +19,7 @@ use Rattle.message.specs.declared.message.Message.{Message}
 use Rattle.message.specs.declared.reaction.Outbox.{Outbox}
 use Rattle.message.specs.declared.reaction.Reaction.{Reaction}
 use Rattle.ordering.specs.declared.operation.Words.{Words}
-use Rattle.laws.specs.Processors.{EachReaction}
+use Rattle.processor.specs.Laws.{EachReaction}
 use Rattle.std.proofs.lemmas.Bool.{cond_both}
 use Rattle.std.proofs.lemmas.Bool.Decides.{nat_tests}
 use Rattle.std.specs.Option.{option_to_list}

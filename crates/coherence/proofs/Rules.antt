@@ -1,7 +1,7 @@
 -- What the tokens of a block say of the receiver of each message that waits, and that a receiver so found has a rule.
 use Rattle.std.proofs.Common.{◌≡◌, ℕ, ◌+◌, ◌≤◌, Bool, true, false, is_some, Some, None, Option, refl, ap, arith}
 use Rattle.home.specs.Directories.{awaits, view}
-use Rattle.laws.specs.Homes.{has_replied}
+use Rattle.home.specs.Laws.{has_replied}
 use Rattle.home.specs.Plans.{plan}
 use Rattle.home.specs.Reactions.{awaits_taken, planned}
 use Rattle.home.specs.Sets.{has}

@@ -1,8 +1,8 @@
 -- Where operations are done: a processor's on memory at itself, those on a device's words at the device's node, an
 -- interrupt at its processor, a block operation at the block's home. So entries of one device are in one node's order.
 use Rattle.std.proofs.Common.{◌≡◌, ℕ, ◌+◌, true, false, cond, ◌||◌, is_some, Some, None, Option, sym, refl, ap, ◌∙◌, subst, inl, inr, arith}
-use Rattle.laws.proofs.BridgeClocks as bridge
-use Rattle.laws.proofs.BridgeWriting as bridge_writing
+use Rattle.bridge.proofs.Clocks as bridge
+use Rattle.bridge.proofs.Writing as bridge_writing
 use Rattle.device.specs.Meaning.{Meaning, Laws}
 use Rattle.home.specs.Reactions.{received}
 use Rattle.ordering.specs.Clocks.{Earlier}
@@ -14,8 +14,8 @@ use Rattle.ordering.specs.declared.operation.Operation.TheVariants.{LdIo, StIo, 
 use Rattle.ordering.specs.declared.stamp.Stamp.{Stamp}
 use Rattle.message.specs.declared.message.Message.{Message}
 use Rattle.processor.specs.Inputs.{message_of}
-use Rattle.laws.specs.Processors.{EachReaction}
-use Rattle.laws.proofs.ProcessorStamping as processor
+use Rattle.processor.specs.Laws.{EachReaction}
+use Rattle.processor.proofs.Stamping as processor
 use Rattle.std.proofs.lemmas.Bool.{cond_both, both_ways}
 use Rattle.std.proofs.lemmas.Bool.Decides.{nat_tests}
 use Rattle.trail.specs.declared.entry.Entry.{Entry}

@@ -10,7 +10,7 @@ use Rattle.message.specs.declared.kind.Kind.{Kind}
 use Rattle.message.specs.declared.message.Message.{Message}
 use Rattle.message.specs.declared.reaction.Outbox.{Outbox}
 use Rattle.processor.specs.Inputs.{message_of}
-use Rattle.laws.specs.Processors.{EachReaction}
+use Rattle.processor.specs.Laws.{EachReaction}
 use Rattle.processor.specs.Slots.{slot_at, with_slot, is_awaited}
 use Rattle.processor.specs.declared.slot.Slot.{Slot}
 use Rattle.processor.specs.declared.slot.Slot.TheVariants.{Free}

@@ -1,14 +1,14 @@
 -- Where operations go: loads, stores and block operations to memory, LDio and STio to a device's words, INT to processors.
 -- And every entry of a run is done at its seat.
 use Rattle.std.proofs.Common.{◌≡◌, ℕ, Bool, true, false, cond, ◌||◌, eqb, ◌⊎◌, [], ◌++◌, Some, None, Option, sym, refl, ap, ◌∙◌, arith}
-use Rattle.laws.proofs.BridgeClocks as bridge
-use Rattle.laws.proofs.BridgeWriting as bridge_writing
+use Rattle.bridge.proofs.Clocks as bridge
+use Rattle.bridge.proofs.Writing as bridge_writing
 use Rattle.device.specs.Meaning.{Meaning, Laws}
 use Rattle.home.specs.Reactions.{received}
 use Rattle.ordering.specs.Operations.{is, is_write}
 use Rattle.ordering.specs.declared.operation.Operation.{Operation}
 use Rattle.ordering.specs.declared.operation.Operation.TheVariants.{LdIo, StIo, Int}
-use Rattle.laws.specs.Processors.{EachReaction}
+use Rattle.processor.specs.Laws.{EachReaction}
 use Rattle.std.proofs.ByRecursion.{All-append, All-push}
 use Rattle.std.proofs.lemmas.Bool.{cond_both, eq-eqb, or_left, or_right}
 use Rattle.std.proofs.lemmas.Bool.Decides.{nat_tests}

@@ -2,7 +2,7 @@
 use Rattle.std.proofs.Common.{◌≡◌, ℕ, length, ◌∙◌, arith, length-set}
 use Rattle.bridge.specs.Inputs as bridge
 use Rattle.device.specs.Meaning.{Meaning}
-use Rattle.laws.specs.Processors.{EachReaction}
+use Rattle.processor.specs.Laws.{EachReaction}
 use Rattle.processor.specs.declared.state.Processor.{Processor}
 use Rattle.std.proofs.lemmas.Bool.Decides.{nat_tests}
 

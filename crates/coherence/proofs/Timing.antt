@@ -1,6 +1,6 @@
 -- Every effect is timely: it moves its own node's clock alone, and never back.
 use Rattle.std.proofs.Common.{◌≡◌, ℕ, ◌+◌, ◌-◌, ◌<◌, true, ◌⊎◌, is_some, IfSome, Some, Option, sym, refl, subst, inl, inr, ⊎_elim, arith}
-use Rattle.laws.proofs.BridgeClocks as bridge
+use Rattle.bridge.proofs.Clocks as bridge
 use Rattle.bridge.specs.Inputs as bridge_input
 use Rattle.bridge.specs.declared.state.Bridge.{Bridge}
 use Rattle.device.specs.Meaning.{Meaning}
@@ -10,7 +10,7 @@ use Rattle.message.specs.declared.message.Message.{Message}
 use Rattle.message.specs.declared.reaction.Reaction.{Reaction}
 use Rattle.ordering.specs.Stamps.{stamped}
 use Rattle.ordering.specs.declared.clock.Clock.{Clock}
-use Rattle.laws.proofs.ProcessorStamping as processor
+use Rattle.processor.proofs.Stamping as processor
 use Rattle.processor.specs.Inputs as processor_input
 use Rattle.processor.specs.declared.state.Processor.{Processor}
 use Rattle.std.proofs.lemmas.Bool.{lt-ltb, le-ltb, ne_eqb}

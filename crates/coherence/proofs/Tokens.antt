@@ -2,7 +2,7 @@
 -- node q, as sums of tests. A request that is out is in exactly one place, and so is a question or a reply; and the copies
 -- are as the directory says, but for what is on its way.
 use Rattle.std.proofs.Common.{◌≡◌, ℕ, ◌+◌, ◌<◌, ◌≤◌, Bool, true, false, ◌&&◌, ◌||◌, eqb, leb, List, length, Some, None, Option}
-use Rattle.laws.specs.Homes.{has_replied}
+use Rattle.home.specs.Laws.{has_replied}
 use Rattle.home.specs.Requests.{asks_down}
 use Rattle.home.specs.Sets.{has}
 use Rattle.home.specs.declared.machine.Home.{Home}

@@ -1,6 +1,6 @@
 -- Tokens after a home that has heard all does what it was asked for and replies.
 use Rattle.std.proofs.Common.{◌≡◌, ℕ, ◌+◌, ◌<◌, ◌≤◌, Bool, true, false, cond, ◌&&◌, ◌||◌, eqb, List, [], ◌∷◌, length, Some, None, Option, refl, ap, ◌∙◌, ⊎_elim, arith, length-set}
-use Rattle.laws.specs.Homes.{has_replied}
+use Rattle.home.specs.Laws.{has_replied}
 use Rattle.home.specs.Reactions.{reply}
 use Rattle.home.specs.Sets.{has, with_member}
 use Rattle.home.specs.declared.directory.Phase.TheVariants.{Gathering}

@@ -1,6 +1,6 @@
 -- Tokens after a home gets TAKEN, when no reply is on its way any more.
 use Rattle.std.proofs.Common.{◌≡◌, ℕ, ◌+◌, ◌≤◌, Bool, true, false, ◌&&◌, eqb, List, sym, refl, ap, ◌∙◌, ⊎_elim, arith}
-use Rattle.laws.specs.Homes.{has_replied}
+use Rattle.home.specs.Laws.{has_replied}
 use Rattle.home.specs.Reactions.{awaits_taken}
 use Rattle.home.specs.declared.machine.Home.{Home}
 use Rattle.message.specs.Kinds.{kind_number}

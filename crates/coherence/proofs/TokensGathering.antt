@@ -1,7 +1,7 @@
 -- Tokens after a free home takes a request and asks its holders, or has nobody to ask.
 use Rattle.std.proofs.Common.{◌≡◌, ℕ, ◌+◌, ◌<◌, ◌≤◌, Bool, true, false, cond, ◌&&◌, eqb, ◌⊎◌, [], ◌∷◌, length, sym, refl, ap, ◌∙◌, inl, inr, arith}
 use Rattle.home.specs.Directories.{view}
-use Rattle.laws.specs.Homes.{has_replied}
+use Rattle.home.specs.Laws.{has_replied}
 use Rattle.home.specs.Reactions.{asks}
 use Rattle.home.specs.Requests.{asks_by, asks_down}
 use Rattle.home.specs.Sets.{nobody, has, is_empty}

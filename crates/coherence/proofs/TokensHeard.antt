@@ -1,7 +1,7 @@
 -- Tokens after a home hears an acknowledgement.
 use Rattle.std.proofs.Common.{◌≡◌, ℕ, ◌+◌, ◌<◌, ◌≤◌, Bool, true, false, cond, eqb, [], ◌∷◌, length, sym, refl, ap, ◌∙◌, arith, length-set}
 use Rattle.home.specs.Directories.{awaits}
-use Rattle.laws.specs.Homes.{has_replied}
+use Rattle.home.specs.Laws.{has_replied}
 use Rattle.home.specs.Requests.{asks_down}
 use Rattle.home.specs.Sets.{has, with_member}
 use Rattle.home.specs.declared.machine.Home.{Home}

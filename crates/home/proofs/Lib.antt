@@ -1,0 +1,4 @@
+pub mod Above
+pub mod Back
+pub mod Keeps
+pub mod ServingAsAsked

@@ -1,5 +1,7 @@
+pub mod Cases
 pub mod Directories
 pub mod Homes
+pub mod Laws
 pub mod Plans
 pub mod Reactions
 pub mod Requests

@@ -2,6 +2,7 @@
 //! woken by one message at a time and answers with a reaction; nothing is touched.
 
 pub mod directory;
+pub mod laws;
 pub mod machine;
 pub mod plan;
 pub mod processors;

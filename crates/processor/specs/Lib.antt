@@ -1,5 +1,7 @@
 pub mod Calls
+pub mod Cases
 pub mod Inputs
+pub mod Laws
 pub mod Lines
 pub mod Receive
 pub mod Refusals

@@ -1,0 +1,108 @@
+-- Block requests: one for a block, sent again when refused, and waited for by an interrupt.
+use Rattle.std.proofs.Common.{◌≡◌, ℕ, true, false, ◌⊎◌, List, get_or, set, Some, None, Option, sym, refl, ap, ◌∙◌, subst, ⊎_elim, arith}
+use Rattle.std.proofs.lemmas.List.{places, get_or-set_same}
+use Rattle.std.proofs.lemmas.Bool.Decides.{nat_tests}
+use Rattle.device.specs.Meaning.{Meaning}
+use Rattle.device.specs.declared.meaning.Wish.{Wish}
+use Rattle.message.specs.Kinds.{same_kind}
+use Rattle.message.specs.Reactions.{single}
+use Rattle.message.specs.Requests.{with_out}
+use Rattle.message.specs.declared.kind.Kind.{Kind}
+use Rattle.message.specs.declared.kind.Kind.TheVariants as kind
+use Rattle.message.specs.declared.message.Message.{Message}
+use Rattle.message.specs.declared.reaction.Outbox.{Outbox}
+use Rattle.message.specs.declared.reaction.Reaction.{Reaction}
+use Rattle.bridge.proofs.Outs.{none_out}
+use Rattle.bridge.proofs.Tables.{put_read}
+use Rattle.bridge.specs.Acts.{some_out}
+use Rattle.bridge.specs.Inputs.{Act, Receive, reaction}
+use Rattle.bridge.specs.Laws.{asks_for_block, RefusedRequestsGoOutAgain, RequestsStayForBlocks, RequestsAreForBlocks, InterruptsWait, WishesAreJudged}
+use Rattle.bridge.specs.Reactions.{receive}
+use Rattle.bridge.specs.Receipts.{again}
+use Rattle.bridge.specs.declared.state.Bridge.{Bridge}
+
+abbrev wished_place : Option Wish → ℕ
+wished_place None = 0
+wished_place (Some h) = h.place
+
+put_block : (rs : List (Option Kind)) (i k : ℕ) (q j : Kind) → asks_for_block q ≡ true →
+    (get_or rs k None ≡ Some j → asks_for_block j ≡ true) → get_or (set rs i (Some q)) k None ≡ Some j →
+    asks_for_block j ≡ true
+put_block rs i k q j a o e =
+    ⊎_elim (λ p. let same : q ≡ j = cc in subst (λ n. asks_for_block n ≡ true) same a) (λ p. o (cc))
+    (put_read rs i k (Some q) None)
+
+end_block : (rs : List (Option Kind)) (i k : ℕ) (j : Kind) → (get_or rs k None ≡ Some j → asks_for_block j ≡ true) →
+    get_or (set rs i None) k None ≡ Some j → asks_for_block j ≡ true
+end_block rs i k j o e = ⊎_elim (λ p. cc) (λ p. o (cc)) (put_read rs i k None None)
+
+same_single : (y z : Message ℕ) → single y ≡ single z → y ≡ z
+same_single y z e = let first = ap (λ (o : Outbox). get_or o.at 0 None) e in cc
+
+module _ {S : Type 0} (m : Meaning S) where
+  resent : (b : Bridge S ℕ) (d : ℕ) (x : Message ℕ) (r : Reaction (Bridge S ℕ)) → receive m d b x ≡ Some r →
+      same_kind x.kind kind.Nack ≡ true → (k : Kind) → x.refused ≡ Some k → r.sent ≡ single (again k d b x)
+  resent b d x r h n k f = grind (arith, nat_tests)
+
+  pub refused_requests_go_out_again : RefusedRequestsGoOutAgain m
+  refused_requests_go_out_again = record {
+    stays = λ b d x r h k. grind (arith, nat_tests);
+    sends = λ b d x r h k. grind (arith, nat_tests);
+    again = λ b d x r h n k y f l.
+        let same : y ≡ again k d b x = same_single y (again k d b x) (sym l ∙ resent b d x r h n k f) in
+        record {
+          kind = ap (λ (z : Message ℕ). z.kind) same;
+          sender = ap (λ (z : Message ℕ). z.sender) same;
+          receiver = ap (λ (z : Message ℕ). z.receiver) same;
+          place = ap (λ (z : Message ℕ). z.place) same;
+          words = ap (λ (z : Message ℕ). z.words) same;
+          clock = ap (λ (z : Message ℕ). z.clock) same;
+          sequence = ap (λ (z : Message ℕ). z.sequence) same;
+        };
+  }
+
+  -- A wish leaves what is out, or a request to read or write its block is then out.
+  acted : (b : Bridge S ℕ) (d ps : ℕ) (r : Reaction (Bridge S ℕ)) → reaction m d b (Act ps) ≡ Some r →
+      (r.next.requests ≡ b.requests)
+      ⊎ ((r.next.requests ≡ with_out b.requests (wished_place (m.wish b.device)) (Some kind.Rblk))
+      ⊎ (r.next.requests ≡ with_out b.requests (wished_place (m.wish b.device)) (Some kind.Wblk)))
+  acted b d ps r h = grind (arith, nat_tests)
+
+  received : (b : Bridge S ℕ) (d : ℕ) (x : Message ℕ) (r : Reaction (Bridge S ℕ)) → receive m d b x ≡ Some r →
+      (r.next.requests ≡ b.requests) ⊎ (r.next.requests ≡ with_out b.requests x.place None)
+  received b d x r h = grind (arith, nat_tests)
+
+  kept : RequestsStayForBlocks m
+  kept b d (Act ps) r h o k j e =
+      ⊎_elim (λ s. o k j (cc))
+      (⊎_elim
+      (λ s. put_block b.requests.at (wished_place (m.wish b.device)) k kind.Rblk j refl (o k j) (cc))
+      (λ s. put_block b.requests.at (wished_place (m.wish b.device)) k kind.Wblk j refl (o k j) (cc)))
+      (acted b d ps r h)
+  kept b d (Receive x) r h o k j e =
+      ⊎_elim (λ s. o k j (cc)) (λ s. end_block b.requests.at x.place k j (o k j) (cc)) (received b d x r h)
+
+  pub requests_are_for_blocks : RequestsAreForBlocks m
+  requests_are_for_blocks = record {
+    start = λ clock s k j h. grind (arith, nat_tests, places);
+    kept = kept;
+    asked = λ b d i r h e y k l. grind (arith, nat_tests);
+    noted = λ b d i r h long e y k l. grind (arith, nat_tests, get_or-set_same b.requests.at y.place (Some y.kind) None);
+    ended = λ b d i r h x e k. grind (arith, nat_tests, put_read b.requests.at x.place x.place None None);
+  }
+
+  pub interrupts_wait : InterruptsWait m
+  interrupts_wait b d (Act ps) r h o y e k j =
+      let free = λ (f : some_out b.requests.at ≡ false). none_out b.requests.at f j in
+      grind (arith, nat_tests, free)
+  interrupts_wait b d (Receive x) r h o y e k j = grind (arith, nat_tests, o x.place)
+
+  pub wishes_are_judged : WishesAreJudged m
+  wishes_are_judged = record {
+    none = λ b d ps e. grind (arith, nat_tests);
+    foreign = λ b d ps h e k. grind (arith, nat_tests);
+    own = λ b d ps h f e k l. grind (arith, nat_tests);
+    waits = λ b d ps e.
+        let free = λ (f : some_out b.requests.at ≡ false). none_out b.requests.at f (wished_place (m.wish b.device)) in
+        grind (arith, nat_tests, free);
+  }

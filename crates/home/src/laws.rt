@@ -1,0 +1,61 @@
+//! What a home keeps, whatever it is told: each law is the contract of a function that does nothing.
+
+ghost use Rattle.home.specs.Cases.{WorkedExchange};
+ghost use Rattle.home.specs.Laws.{RefusesWhileBusy, NacksGiveBack, BusyUntilTaken, TakenFrees, OtherKindsHaveNoRule, ClockNeverGoesBack, FinishesAboveAll, HearsAll, RepliesAboveAll, WordsStay, GrantsToSharers, HomesServeAsAsked};
+
+/// A home that is not free answers every request with NACK, and changes nothing.
+pub fn busy_homes_refuse()
+    ensures { RefusesWhileBusy }
+{}
+
+/// A NACK gives back the request with its words, clock and number, and changes nothing.
+pub fn nacks_give_back()
+    ensures { NacksGiveBack }
+{}
+
+/// A busy home is free again by TAKEN from its requester, and by nothing else.
+pub fn homes_stay_busy_until_taken()
+    ensures only { BusyUntilTaken }
+    ensures then { TakenFrees }
+{}
+
+/// There is no rule for what is no request, acknowledgement or TAKEN.
+pub fn other_kinds_have_no_rule()
+    ensures { OtherKindsHaveNoRule }
+{}
+
+/// No message sets a home's clock back.
+pub fn clocks_never_go_back()
+    ensures { ClockNeverGoesBack }
+{}
+
+/// What is heard is kept until the home finishes, and then it passes once, above all of it.
+pub fn homes_finish_above_all()
+    ensures heard { HearsAll }
+    ensures finished { FinishesAboveAll }
+{}
+
+/// Operation and reply stand above all that the home was told before them.
+pub fn replies_are_above_all()
+    ensures { RepliesAboveAll }
+{}
+
+/// Only an owner's words and a device's write change a home's words.
+pub fn words_stay()
+    ensures { WordsStay }
+{}
+
+/// Ownership is granted only to one that shares.
+pub fn grants_go_to_sharers()
+    ensures { GrantsToSharers }
+{}
+
+/// An owner is asked for its words before another reads them.
+pub fn owners_give_their_words()
+    ensures { WorkedExchange }
+{}
+
+/// STblk writes the words of its request; LDblk gets the words of the home, and the reply tells them.
+pub fn homes_serve_as_asked()
+    ensures { HomesServeAsAsked }
+{}

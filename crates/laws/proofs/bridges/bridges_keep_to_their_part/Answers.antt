@@ -1,5 +1,0 @@
-use Rattle.laws.proofs.BridgeClocks.{bridges_keep_to_their_part}
-use Rattle.laws.proofs.bridges.bridges_keep_to_their_part.Goals as goal
-
-pub returns : goal.returns
-returns g c = bridges_keep_to_their_part g.D.Device.meaning

@@ -1,5 +1,0 @@
-use Rattle.laws.proofs.WritingAsAsked.{bridges_write_as_asked}
-use Rattle.laws.proofs.bridges.bridges_write_as_asked.Goals as goal
-
-pub returns : goal.returns
-returns g c = bridges_write_as_asked g.D.Device.meaning

@@ -1,5 +1,0 @@
-use Rattle.laws.proofs.BridgeWriting.{only_stores_write}
-use Rattle.laws.proofs.bridges.only_stores_write.Goals as goal
-
-pub returns : goal.returns
-returns g c = only_stores_write g.D.Device.meaning g.met.D.Device.lawful
