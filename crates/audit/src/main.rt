@@ -1,5 +1,7 @@
 //! Audits a recorded trail: where each word that was read came from, and whether the read agrees with it.
 
+#![tactic(auto)]
+
 use finding::{audited, told};
 use list::List;
 use record::{NO_ENTRY, entry_of};

@@ -1,5 +1,7 @@
 //! The board as a whole: its calls, its faults, and what every run of calls keeps.
 
+#![tactic(auto)]
+
 pub mod call;
 pub mod cases;
 pub mod fault;

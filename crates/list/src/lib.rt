@@ -1,5 +1,7 @@
 //! One bounded list for every kind of record, over memory that its user lends.
 
+#![tactic(auto)]
+
 mod methods;
 mod record;
 mod storage;

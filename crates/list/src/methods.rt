@@ -11,7 +11,7 @@ impl<'a, T: Record> List<'a, T> {
     /// An empty list; memory past the most that its kind may hold is not used.
     pub fn new(memory: &'a mut [T]) -> List<'a, T>
         ensures empty { contents result ≡ [] }
-        ensures capacity { room result ≡ min most (length memory.old) }
+        ensures capacity { room result ≡ min T.most (length memory.old) }
     {
         let capacity = T::most().min(memory.len());
         List {

@@ -1,5 +1,7 @@
 //! Messages between nodes, and what a node's reaction sends, records and answers.
 
+#![tactic(auto)]
+
 pub mod figures;
 pub mod form;
 pub mod kind;

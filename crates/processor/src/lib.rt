@@ -1,5 +1,7 @@
 //! A processor node: what it does at each call and at each message, as values that touch nothing.
 
+#![tactic(auto)]
+
 pub mod calls;
 pub mod laws;
 pub mod line;

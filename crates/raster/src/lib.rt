@@ -1,6 +1,8 @@
 //! The raster board: its processors, homes and two devices of any two kinds, and the calls that are made on it.
 //! Every call does what the definition of a step says, and every run of calls keeps the order promise.
 
+#![tactic(auto)]
+
 pub mod board;
 mod calls;
 mod check;

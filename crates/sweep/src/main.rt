@@ -1,5 +1,7 @@
 //! Devices at work: each is told what to do through its words, and its wishes are shown as they are accepted.
 
+#![tactic(auto)]
+
 mod act;
 mod copier;
 mod order;

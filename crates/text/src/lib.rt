@@ -1,5 +1,7 @@
 //! Reading text that stands in lines of tab-parted fields: any bytes, and no copy of them.
 
+#![tactic(auto)]
+
 mod bytes;
 mod fields;
 mod lines;

@@ -5,8 +5,8 @@ use Rattle.bridge.proofs.act.any_out.Goals as goal
 pub loop-request-preserved : goal.loop-request-preserved
 loop-request-preserved c = search (rules, out_later)
 
-pub returns-then-is-some : goal.returns-then-is-some
-returns-then-is-some c = search (rules, out_here)
+pub returns-then-is_some : goal.returns-then-is_some
+returns-then-is_some c = search (rules, out_here)
 
 pub returns : goal.returns
 returns c = search (rules, out_nowhere)

@@ -10,8 +10,8 @@ use Rattle.raster.specs.Boards.{left}
 use Rattle.raster.specs.Fitting.{planned}
 use Rattle.std.specs.Option.{option_to_list}
 
-pub returns-in-err-plan : goal.returns-in-err-plan
-returns-in-err-plan g c =
+pub returns-in_err-plan : goal.returns-in_err-plan
+returns-in_err-plan g c =
     let m = g.D.Device.meaning in
     let b = view g.D.Device.state c.args.bridge.now in
     let ms = contents c.args.messages.now in
@@ -19,8 +19,8 @@ returns-in-err-plan g c =
     let k = keeps m c.args.number b p in
     let refused =
     refuses p (planned m c.args.number b p) k c.args.number (left ms c.args.taken) (room c.args.messages.now)
-    (contents c.args.trail.now) (room c.args.trail.now) c.in-err-plan.field-0.0 b ms
-    (sym c.in-err-plan.was ∙ c.fitting.ensures) in
+    (contents c.args.trail.now) (room c.args.trail.now) c.in_err-plan.field-0.0 b ms
+    (sym c.in_err-plan.was ∙ c.fitting.ensures) in
     search rules
 
 pub post-requires : goal.post-requires
@@ -32,8 +32,8 @@ post-requires g c =
     let k = keeps m c.args.number b p in
     let room-left =
     has_room p x k c.args.number (left (contents c.args.messages.now) c.args.taken) (room c.args.messages.now)
-    (contents c.args.trail.now) (room c.args.trail.now) c.in-ok-plan.plan
-    (sym c.in-ok-plan.was ∙ c.fitting.ensures) in
+    (contents c.args.trail.now) (room c.args.trail.now) c.in_ok-plan.plan
+    (sym c.in_ok-plan.was ∙ c.fitting.ensures) in
     let same = room-left.0 in
     let outcome = c.perform-outcome.ensures.outcome in
     let s = ap (λ (o : Outcome). sent_count o.sent) outcome ∙ ap (λ (q : Plan ℕ). sent_count (planned m c.args.number b q).sent) same in

@@ -21,7 +21,7 @@ loop-message-preserved c =
           let sent = sends_one (contents c.loop-message.messages) all os i cap (omega arith) fits step w.in-Some.message w.in-Some.is in
           (cc, cc)
       | in_default w ↦
-          let kept = sends_none (contents c.loop-message.messages) all os i cap (omega arith) fits step w.in-default.is in
+          let kept = sends_none (contents c.loop-message.messages) all os i cap (omega arith) fits step w.in_default.is in
           (cc, cc)
     ]
 

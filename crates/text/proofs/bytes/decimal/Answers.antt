@@ -8,8 +8,8 @@ loop-byte-init c = search (rules, decimal_starts)
 pub loop-byte-preserved : goal.loop-byte-preserved
 loop-byte-preserved c = search (rules, spelled_more)
 
-pub returns-in-default : goal.returns-in-default
-returns-in-default c = search (rules, spelled_more)
+pub returns-in_default : goal.returns-in_default
+returns-in_default c = search (rules, spelled_more)
 
 pub returns : goal.returns
 returns c = search (rules, spelled_all)

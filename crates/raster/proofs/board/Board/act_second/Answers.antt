@@ -11,4 +11,4 @@ returns g c =
     let w = world g.A.Device.state g.B.Device.state c.args.self.now c.args.messages.now c.args.trail.now in
     c.commit-second.ensures
     ∙ acts g.A.Device.meaning g.B.Device.meaning g.B.Device.meaning (by_second w) (Act 1) w 1 c.args.self.now.tables.count
-    (view g.B.Device.state c.args.self.now.second) c.in-ok-plan.plan (sym c.act.ensures ∙ c.in-ok-plan.was)
+    (view g.B.Device.state c.args.self.now.second) c.in_ok-plan.plan (sym c.act.ensures ∙ c.in_ok-plan.was)
