@@ -6,7 +6,7 @@ ghost use Rattle.device.specs.declared.plate_setter.PlateSetter.{PlateSetter};
 ghost use Rattle.device.specs.Plates.{plate_meaning, blank_plate};
 ghost use Rattle.std.proofs.Common.{rules};
 
-use crate::meaning::{Device, NoWord, Wish};
+use crate::meaning::{Device, NoWord, Wish, Wishing};
 use crate::sweep::{Stage, Sweep};
 use ordering::operation::{Operation, Words};
 
@@ -83,4 +83,8 @@ impl Device for PlateSetter {
     }
 
     fn landed(&mut self, _block: u32, _words: Words) {}
+}
+
+impl Wishing for PlateSetter {
+    ghost four_words = { Prim.search rules };
 }

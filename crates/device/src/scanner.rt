@@ -6,7 +6,7 @@ ghost use Rattle.device.specs.declared.scanner.Scanner.{Scanner};
 ghost use Rattle.device.specs.Scanners.{scanner_meaning, blank_scanner, row_from};
 ghost use Rattle.std.proofs.Common.{rules};
 
-use crate::meaning::{Device, NoWord, Wish};
+use crate::meaning::{Device, NoWord, Wish, Wishing};
 use crate::sweep::{Stage, Sweep};
 use ordering::operation::{Operation, Words};
 
@@ -102,4 +102,8 @@ impl Device for Scanner {
     }
 
     fn landed(&mut self, _block: u32, _words: Words) {}
+}
+
+impl Wishing for Scanner {
+    ghost four_words = { Prim.search rules };
 }
