@@ -1,6 +1,6 @@
 -- Over every run: the figures stay, numbers at rest are within their end, homes keep well-formed requests of the board, and
 -- every waiting message is well formed.
-use Rattle.std.proofs.Common.{◌≡◌, ℕ, ◌+◌, ◌<◌, ◌≤◌, true, ltb, get_or, take, drop, set, IfSome, Option, sym, refl, ap, ◌∙◌, subst, ⊎_elim, arith}
+use Rattle.std.proofs.Common.{◌≡◌, ℕ, ◌+◌, ◌<◌, ◌≤◌, true, ltb, List, get_or, take, drop, set, IfSome, Option, sym, refl, ap, ◌∙◌, subst, ⊎_elim, arith}
 use Rattle.bridge.specs.Inputs as bridge
 use Rattle.device.specs.Meaning.{Meaning, Laws}
 use Rattle.home.specs.Homes.{new_home}
@@ -24,9 +24,11 @@ use Rattle.coherence.proofs.FormsHomes.{HomeGood, home_good}
 use Rattle.coherence.proofs.FormsKept.{HomeWell, nobody_on_board}
 use Rattle.coherence.proofs.FormsNumbers.{NumbersWithin, numbers_kept, numbers_made}
 use Rattle.coherence.proofs.FormsProcessors.{processor_sends}
-use Rattle.coherence.proofs.Running.{shape_kept, shape_made}
+use Rattle.coherence.proofs.Rising.{all_nth}
+use Rattle.coherence.proofs.Running.{over_calls, shape_kept, shape_made}
 use Rattle.coherence.proofs.Stepping.{steps}
-use Rattle.coherence.specs.Histories.{run}
+use Rattle.coherence.specs.Histories.{began, run}
+use Rattle.coherence.specs.Promise.{MessagesAreFormed}
 use Rattle.coherence.specs.Makings.{Making, make, block_words}
 use Rattle.coherence.specs.Steps.{Effect, figures, waiting, step}
 use Rattle.coherence.specs.Worlds.{World, processor_at, home_at, no_home}
@@ -140,3 +142,18 @@ module _ {A B : Type 0} (ma : Meaning A) (mb : Meaning B) where
           (record { holders = nobody_on_board (figures ma mb (make ma mb k)); awaited = nobody_on_board (figures ma mb (make ma mb k)); request = λ free. absurd (both_ways true free refl) });
       messages = tt;
     }
+
+    pub formed : (k : Making A B) (calls : List Call) → Formed (figures ma mb (make ma mb k)) (run ma mb k calls).world
+    formed k calls = over_calls ma mb (Formed (figures ma mb (make ma mb k))) (formed_kept (figures ma mb (make ma mb k))) (began ma mb k) calls (formed_made k)
+
+    -- The figures of a run are those of its making, and by them every waiting message is well formed.
+    pub figures_stay : (k : Making A B) (calls : List Call) → figures ma mb (run ma mb k calls).world ≡ figures ma mb (make ma mb k)
+    figures_stay k calls = (formed k calls).same
+
+    pub waiting_are_well_formed : (k : Making A B) (calls : List Call) → All (Well (figures ma mb (run ma mb k calls).world)) (run ma mb k calls).world.messages
+    waiting_are_well_formed k calls =
+        subst (λ (g : Figures). All (Well g) (run ma mb k calls).world.messages) (sym (figures_stay k calls)) (formed k calls).messages
+
+    pub messages_are_formed : MessagesAreFormed ma mb
+    messages_are_formed k calls m stands =
+        all_nth (Well (figures ma mb (run ma mb k calls).world)) (run ma mb k calls).world.messages stands.0 m (waiting_are_well_formed k calls) stands.1

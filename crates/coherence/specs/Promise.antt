@@ -92,3 +92,13 @@ module _ {A B : Type 0} (ma : Meaning A) (mb : Meaning B) (k : Making A B) where
 -- For every making and every list of calls, refused ones included.
 abbrev pub OrderPromise : {A B : Type 0} → Meaning A → Meaning B → Type 0
 OrderPromise {A} {B} ma mb = (k : Making A B) (calls : List Call) → OrderKept ma mb k (run ma mb k calls)
+
+-- Steps towards it. In every run, no two entries have one stamp,
+abbrev pub StampsAreUnique : {A B : Type 0} → Meaning A → Meaning B → Type 0
+StampsAreUnique {A} {B} ma mb = (k : Making A B) (calls : List Call) → OwnStamps (run ma mb k calls).world.trail
+
+-- and every waiting message is well formed on its board.
+abbrev pub MessagesAreFormed : {A B : Type 0} → Meaning A → Meaning B → Type 0
+MessagesAreFormed {A} {B} ma mb =
+    (k : Making A B) (calls : List Call) (m : Message ℕ) → Stands (run ma mb k calls).world.messages m
+    → well_formed (figures ma mb (run ma mb k calls).world) m ≡ true
