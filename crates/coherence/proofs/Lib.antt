@@ -110,3 +110,4 @@ pub mod ValuesKept
 pub mod ValuesOperations
 pub mod ValuesQuiet
 pub mod Whereabouts
+pub mod Wishes

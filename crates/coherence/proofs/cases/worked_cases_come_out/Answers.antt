@@ -3,24 +3,24 @@ use Rattle.coherence.proofs.cases.worked_cases_come_out.Goals as goal
 
 pub returns : goal.returns
 returns c = record {
-  passes-five = refl;
-  passes-two = refl;
-  global-first = refl;
-  node-last = refl;
-  home-passed = refl;
-  owner-passed = refl;
-  store-stamped = refl;
-  early-gets-refused = refl;
-  owner-downgraded = refl;
-  home-above-owner = refl;
-  sharer-above-home = refl;
-  sharer-loads = refl;
-  owner-loads = refl;
-  sharer-stamped = refl;
-  owner-stamped = refl;
-  older-goes-first = refl;
-  number-ends = refl;
-  end-itself-is-had = refl;
-  last-block-asked = refl;
-  block-past-the-last = refl;
+  passes_five = refl;
+  passes_two = refl;
+  global_first = refl;
+  node_last = refl;
+  home_passed = refl;
+  owner_passed = refl;
+  store_stamped = refl;
+  early_gets_refused = refl;
+  owner_downgraded = refl;
+  home_above_owner = refl;
+  sharer_above_home = refl;
+  sharer_loads = refl;
+  owner_loads = refl;
+  sharer_stamped = refl;
+  owner_stamped = refl;
+  older_goes_first = refl;
+  number_ends = refl;
+  end_itself_is_had = refl;
+  last_block_asked = refl;
+  block_past_the_last = refl;
 }
