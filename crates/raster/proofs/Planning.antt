@@ -1,5 +1,5 @@
 -- What a plan leads to is what it says: its messages, its entries and its numbers.
-use Rattle.std.proofs.Common.{◌≡◌, ℕ, ◌+◌, ◌≤◌, true, false, cond, leb, List, length, is_some, Some, None, Ok, Err, Option, refl, ap, ◌∙◌, arith}
+use Rattle.std.proofs.Common.{◌≡◌, ℕ, ◌+◌, ◌≤◌, true, false, cond, leb, List, ◌++◌, length, is_some, Some, None, Ok, Err, Option, refl, ap, ◌∙◌, arith}
 use Rattle.bridge.proofs.Writing.{plans_are_kept}
 use Rattle.bridge.specs.Deeds.{performed}
 use Rattle.bridge.specs.Plans.{sends, enters, plan_within}
@@ -9,7 +9,7 @@ use Rattle.bridge.specs.declared.plan.Plan.{Plan}
 use Rattle.bridge.specs.declared.state.Bridge.{Bridge}
 use Rattle.coherence.specs.Steps.{bridge_within}
 use Rattle.device.specs.Meaning.{Meaning}
-use Rattle.message.specs.Reactions.{sent_count}
+use Rattle.message.specs.Reactions.{sent, sent_count}
 use Rattle.message.specs.declared.reaction.Reaction.{Reaction}
 use Rattle.coherence.specs.declared.fault.Fault.{Fault}
 use Rattle.message.specs.declared.message.Message.{Message}
@@ -62,3 +62,7 @@ module _ {S : Type 0} (p : Plan ℕ) (x : Reaction (Bridge S ℕ)) (k : Kept p x
   pub has_room : (q : Plan ℕ) → Ok q ≡ fitting d p (length ws) (sends p.deed) mr (length es) (cond (enters p.deed) 1 0) tr
       → (q ≡ p) × (length ws + sent_count x.sent ≤ mr) × (length es + length (option_to_list x.entry) ≤ tr)
   has_room q is = let m = k.messages in let e = k.entries in let w = k.within in grind (arith, nat_tests)
+
+  pub commits : (q : Plan ℕ) (b : Bridge S ℕ) (ms : List (Message ℕ)) → Ok q ≡ fitting d p (length ws) (sends p.deed) mr (length es) (cond (enters p.deed) 1 0) tr
+      → (Ok None, x.next, ws ++ sent x.sent, es ++ option_to_list x.entry) ≡ plan_committed d b x ms ws mr es tr
+  commits q b ms is = let m = k.messages in let e = k.entries in let w = k.within in let a = k.answer in grind (arith, nat_tests)

@@ -3,7 +3,7 @@ use Rattle.list.specs.Contents.{contents, room}
 use Rattle.message.specs.Reactions.{gathered}
 use Rattle.raster.proofs.Posting.{sends_one, sends_none, all_sent}
 use Rattle.raster.proofs.post.send_all.Goals as goal
-use Rattle.raster.proofs.post.send_all.Goals.{in_Some, in_default}
+use Rattle.raster.proofs.post.send_all.Goals.{in-Some, in_default}
 use Rattle.std.proofs.lemmas.List.{length-append}
 
 pub loop-message-preserved : goal.loop-message-preserved
@@ -17,7 +17,7 @@ loop-message-preserved c =
     let fits : length all ≤ cap = omega arith in
     let step = c.loop-message.invariant.0 in
     elim c.match-message.branch [
-      | in_Some w ↦
+      | in-Some w ↦
           let sent = sends_one (contents c.loop-message.messages) all os i cap (omega arith) fits step w.in-Some.message w.in-Some.is in
           (cc, cc)
       | in_default w ↦

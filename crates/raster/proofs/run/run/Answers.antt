@@ -15,10 +15,10 @@ returns g c =
     let calls = c.args.calls.now in
     record {
       world =
-          c.call-all.ensures.world
+          c.call_all.ensures.world
           ∙ ap (λ (w : World g.A.Device.State g.B.Device.State). world_after ma mb w calls) c.make-board.ensures
           ∙ sym (run_world ma mb k calls);
       answers =
-          c.call-all.ensures.answers
+          c.call_all.ensures.answers
           ∙ ap (λ (w : World g.A.Device.State g.B.Device.State). overlaid c.args.answers.now (answers_of ma mb w calls)) c.make-board.ensures;
     }

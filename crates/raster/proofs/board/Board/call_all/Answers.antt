@@ -5,7 +5,7 @@ use Rattle.coherence.specs.declared.call.Call.{Call}
 use Rattle.coherence.specs.declared.call.Call.TheVariants.{Load}
 use Rattle.raster.proofs.Turns.{overlaid_none, world_more, answers_more}
 use Rattle.raster.proofs.board.Board.call_all.Goals as goal
-use Rattle.raster.proofs.board.Board.call_all.Goals.{then_place_answers, else_place_answers}
+use Rattle.raster.proofs.board.Board.call_all.Goals.{then-place-answers, else-place-answers}
 use Rattle.raster.specs.Boards.{world}
 use Rattle.raster.specs.Runs.{world_after, answers_of, overlaid}
 use Rattle.std.proofs.lemmas.List.{set_past, take_all}
@@ -23,21 +23,21 @@ loop-place-preserved g c =
     let call = get_or calls i (Load 0 0) in
     let inside = c.loop-place-test.true in
     let made = c.call-answer.ensures in
-    let world-now =
+    let world_now =
     ap (λ (o : Answer × World g.A.Device.State g.B.Device.State). o.1) made
     ∙ ap (λ (w : World g.A.Device.State g.B.Device.State). (step ma mb call w).1) c.loop-place.invariant.0
     ∙ world_more ma mb start calls i (Load 0 0) inside in
     let answer =
     ap (λ (o : Answer × World g.A.Device.State g.B.Device.State). o.0) made
     ∙ ap (λ (w : World g.A.Device.State g.B.Device.State). (step ma mb call w).0) c.loop-place.invariant.0 in
-    let answers-now : set c.loop-place.answers i c.call-answer.result ≡ overlaid c.args.answers.now (answers_of ma mb start (take (i + 1) calls)) =
+    let answers_now : set c.loop-place.answers i c.call-answer.result ≡ overlaid c.args.answers.now (answers_of ma mb start (take (i + 1) calls)) =
     ap (λ (xs : List Answer). set xs i c.call-answer.result) c.loop-place.invariant.1
     ∙ ap (set (overlaid c.args.answers.now (answers_of ma mb start (take i calls))) i) answer
     ∙ answers_more ma mb start calls i (Load 0 0) c.args.answers.now inside in (
-      world-now,
+      world_now,
       elim c.if-place-answers.branch [
-        | then_place_answers w ↦ w.answers-is ∙ answers-now
-        | else_place_answers w ↦ w.answers-is ∙ sym (set_past c.loop-place.answers i c.call-answer.result w.if-place-answers.false) ∙ answers-now
+        | then-place-answers w ↦ w.answers-is ∙ answers_now
+        | else-place-answers w ↦ w.answers-is ∙ sym (set_past c.loop-place.answers i c.call-answer.result w.if-place-answers.false) ∙ answers_now
       ],
     )
 

@@ -13,6 +13,6 @@ returns g c =
     let lifted =
     second_lifts w (left (contents c.args.messages.now) c.args.taken)
     (planned g.B.Device.meaning 1 (view g.B.Device.state c.args.self.now.second) c.args.plan)
-    (done c.commit-plan.result) (view g.B.Device.state c.commit-plan.new.bridge)
-    (contents c.commit-plan.new.messages) (contents c.commit-plan.new.trail) c.commit-plan.ensures.value in
+    (done c.commit_plan.result) (view g.B.Device.state c.commit_plan.new.bridge)
+    (contents c.commit_plan.new.messages) (contents c.commit_plan.new.trail) c.commit_plan.ensures.value in
     search rules

@@ -16,7 +16,7 @@ returns g c =
     ∙ ap (λ (k : ℕ). figures_fit ps clock n (length (g.A.Device.meaning.words (g.A.Device.state c.args.first))) k) c.count-2.ensures.count)
     refl
     (ap (λ (p : Processor ℕ). p ∷ p ∷ p ∷ p ∷ []) c.new.ensures)
-    c.homes-from-homes.ensures
+    c.homes_from-homes.ensures
     (ap (view g.A.Device.state) c.new-2.ensures)
     (ap (view g.B.Device.state) c.new-3.ensures)
     c.clear.ensures.contents c.clear-2.ensures.contents c.clear.ensures.capacity c.clear-2.ensures.capacity

@@ -9,6 +9,6 @@ use Rattle.raster.specs.Boards.{world}
 pub returns : goal.returns
 returns g c =
     let w = world g.A.Device.state g.B.Device.state c.args.self.now c.args.messages.now c.args.trail.now in
-    c.commit-first.ensures
+    c.commit_first.ensures
     ∙ receives g.A.Device.meaning g.B.Device.meaning g.A.Device.meaning (by_first w) (Deliver c.args.place) w 0 c.args.place
     (view g.A.Device.state c.args.self.now.first) c.args.message c.in-Some.plan (sym c.receive.ensures ∙ c.in-Some.is)

@@ -9,6 +9,6 @@ use Rattle.raster.specs.Boards.{world}
 pub returns : goal.returns
 returns g c =
     let w = world g.A.Device.state g.B.Device.state c.args.self.now c.args.messages.now c.args.trail.now in
-    c.commit-second.ensures
+    c.commit_second.ensures
     ∙ receives g.A.Device.meaning g.B.Device.meaning g.B.Device.meaning (by_second w) (Deliver c.args.place) w 1 c.args.place
     (view g.B.Device.state c.args.self.now.second) c.args.message c.in-Some.plan (sym c.receive.ensures ∙ c.in-Some.is)
