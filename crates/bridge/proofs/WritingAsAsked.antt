@@ -1,5 +1,5 @@
 -- What was asked for is what a bridge writes and carries.
-use Rattle.std.proofs.Common.{refl, arith}
+use Rattle.std.proofs.Common.{arith}
 use Rattle.std.proofs.lemmas.Bool.Decides.{nat_tests}
 use Rattle.device.specs.Meaning.{Meaning}
 use Rattle.bridge.specs.Laws.{BridgesWriteAsAsked}

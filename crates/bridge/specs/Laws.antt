@@ -3,7 +3,6 @@ use Rattle.std.specs.Prelude.{◌≡◌, ℕ, ◌+◌, ◌<◌, ◌≤◌, Bool,
 use Rattle.ordering.specs.Operations.{is}
 use Rattle.ordering.specs.Stamps.{stamped}
 use Rattle.ordering.specs.Words.{one_word, first_word}
-use Rattle.ordering.specs.declared.clock.Clock.{Clock}
 use Rattle.ordering.specs.declared.operation.Operation.TheVariants as operation
 use Rattle.trail.specs.declared.entry.Entry.{Entry}
 use Rattle.device.specs.Events.{Event, reads, writes, accepts, lands, after}

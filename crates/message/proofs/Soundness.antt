@@ -4,7 +4,7 @@ use Rattle.ordering.specs.Clocks.{number_end}
 use Rattle.ordering.specs.declared.operation.Words.{Words}
 use Rattle.std.proofs.lemmas.Bool.{and_parts, ltb-true, eqb-true, both_ways, or_cases}
 use Rattle.std.proofs.lemmas.Bool.Decides.{nat_tests}
-use Rattle.message.specs.Checks.{end_fits, words_fit, numbers_fit, fits, well_formed}
+use Rattle.message.specs.Checks.{end_fits, words_fit, numbers_fit, fits}
 use Rattle.message.specs.Forms.{form_of}
 use Rattle.message.specs.Laws.{goes_home, comes_from_home, Sound, WellFormedAreSound}
 use Rattle.message.specs.Nodes.{home_node}

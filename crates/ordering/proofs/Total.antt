@@ -1,5 +1,5 @@
 -- Stamps are in a strict total order.
-use Rattle.std.proofs.Common.{◌≡◌, ℕ, Bool, true, false, cond, refl, arith}
+use Rattle.std.proofs.Common.{◌≡◌, false, arith}
 use Rattle.std.proofs.lemmas.Bool.Decides.{nat_tests}
 use Rattle.ordering.specs.declared.stamp.Stamp.{Stamp}
 use Rattle.ordering.specs.Stamps.{below, StrictTotalOrder}

@@ -1,5 +1,5 @@
 -- The seven operations: which read, which write, which go to a block, and their names.
-use Rattle.std.specs.Prelude.{ℕ, Bool, ◌||◌, List, [], ◌∷◌, codes, ◌==◌}
+use Rattle.std.specs.Prelude.{ℕ, Bool, ◌||◌, List, codes, ◌==◌}
 use Rattle.ordering.specs.declared.operation.Operation.{Operation}
 use Rattle.ordering.specs.declared.operation.Operation.TheVariants.{Ld, St, LdIo, StIo, Int, LdBlk, StBlk}
 

@@ -1,5 +1,5 @@
 -- What a processor does at each call: its reaction, or why it refuses.
-use Rattle.std.specs.Prelude.{ℕ, ◌+◌, Bool, true, false, cond, ◌&&◌, Some, None, Ok, Err, Option, Result, nat_lt}
+use Rattle.std.specs.Prelude.{ℕ, Bool, true, false, cond, ◌&&◌, Some, None, Ok, Err, Result, nat_lt}
 use Rattle.ordering.specs.Clocks.{counted}
 use Rattle.ordering.specs.Stamps.{stamped}
 use Rattle.ordering.specs.Words.{one_word, no_words}

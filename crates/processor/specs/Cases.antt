@@ -1,14 +1,11 @@
 -- Runs of one processor with what comes of them, step by step.
-use Rattle.std.specs.Prelude.{◌≡◌, ℕ, true, false, List, [], ◌∷◌, Some, None, Option}
+use Rattle.std.specs.Prelude.{◌≡◌, ℕ, false, List, [], ◌∷◌, Some, None, Option}
 use Rattle.ordering.specs.Words.{one_word, no_words}
 use Rattle.ordering.specs.declared.operation.Words.{Words}
-use Rattle.ordering.specs.declared.clock.Clock.{Clock}
 use Rattle.ordering.specs.declared.stamp.Stamp.{Stamp}
 use Rattle.trail.specs.declared.entry.Entry.{Entry}
 use Rattle.message.specs.declared.kind.Kind.{Kind}
 use Rattle.message.specs.declared.kind.Kind.TheVariants as kind
-use Rattle.message.specs.declared.message.Message.{Message}
-use Rattle.message.specs.declared.reaction.Reaction.{Reaction}
 use Rattle.processor.specs.Inputs.{Input, Load, Store, Request, Ldio, Collect, GiveUp, Receive, reaction}
 use Rattle.processor.specs.Receive.{Outcome}
 use Rattle.processor.specs.States.{made}

@@ -2,7 +2,6 @@
 use Rattle.std.specs.Prelude.{ℕ, Some, None, Ok, Err, Option}
 use Rattle.message.specs.declared.kind.Kind.{Kind}
 use Rattle.message.specs.declared.message.Message.{Message}
-use Rattle.message.specs.declared.reaction.Reaction.{Reaction}
 use Rattle.processor.specs.Calls.{Answer, load, store, request, ldio, stio, collect, give_up, poll}
 use Rattle.processor.specs.Receive.{Outcome, receive}
 use Rattle.processor.specs.declared.state.Processor.{Processor}

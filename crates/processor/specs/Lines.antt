@@ -1,5 +1,5 @@
 -- Cache lines: a processor's copy of each block, and the words in it.
-use Rattle.std.specs.Prelude.{ℕ, ◌/◌, ◌%◌, Bool, Some, None, Option, slice_index, slice_index_or, slice_set}
+use Rattle.std.specs.Prelude.{ℕ, ◌/◌, ◌%◌, Some, None, Option, slice_index, slice_index_or, slice_set}
 use Rattle.ordering.specs.declared.operation.Words.{Words}
 use Rattle.processor.specs.declared.line.Line.{Line}
 use Rattle.processor.specs.declared.line.Line.TheVariants.{Invalid, Shared, Exclusive}

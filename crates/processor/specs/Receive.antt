@@ -1,6 +1,6 @@
 -- What a processor does when a message reaches it, or none where there is no rule. The fields that a kind
 -- leaves empty, and who may send it, are not looked at here.
-use Rattle.std.specs.Prelude.{ℕ, Bool, true, false, cond, get_or, Some, None, Option}
+use Rattle.std.specs.Prelude.{ℕ, Bool, true, false, cond, Some, None, Option}
 use Rattle.ordering.specs.Clocks.{passed, counted}
 use Rattle.ordering.specs.Stamps.{stamped}
 use Rattle.ordering.specs.Words.{one_word, no_words, first_word}

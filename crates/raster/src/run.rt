@@ -3,13 +3,14 @@
 ghost use Rattle.std.specs.Prelude.{◌≡◌, length};
 ghost use Rattle.coherence.specs.Histories.{run};
 ghost use Rattle.coherence.specs.Makings.{make};
+ghost use Rattle.coherence.specs.Promise.{OrderKept};
 ghost use Rattle.raster.specs.Boards.{world, making};
 ghost use Rattle.raster.specs.Runs.{world_after, answers_of, overlaid};
 
 use crate::board::Board;
 use coherence::call::Call;
 use coherence::fault::Fault;
-use device::meaning::Device;
+use device::meaning::{Device, Wishing};
 use list::List;
 use message::message::Message;
 use trail::entry::Entry;
@@ -35,8 +36,9 @@ impl<A: Device, B: Device> Board<A, B> {
     }
 }
 
-/// Makes a board and then the calls in turn. As many answers are given as there are calls and places for them.
-pub fn run<A: Device, B: Device>(
+/// Makes a board and then the calls in turn. As many answers are given as there are calls and places for them. The run keeps
+/// the order promise.
+pub fn run<A: Wishing, B: Wishing>(
     processors: u32,
     clock: u32,
     words: &[u32],
@@ -49,6 +51,7 @@ pub fn run<A: Device, B: Device>(
 ) -> Board<A, B>
     ensures world { world A.Device.state B.Device.state result messages.new trail.new ≡ (run A.Device.meaning B.Device.meaning (making processors clock words.now (A.Device.state first) (B.Device.state second) messages.old trail.old) calls.now).world }
     ensures answers { answers.new ≡ overlaid answers.old (answers_of A.Device.meaning B.Device.meaning (make A.Device.meaning B.Device.meaning (making processors clock words.now (A.Device.state first) (B.Device.state second) messages.old trail.old)) calls.now) }
+    ensures promise { let k = making processors clock words.now (A.Device.state first) (B.Device.state second) messages.old trail.old in OrderKept A.Device.meaning B.Device.meaning k (run A.Device.meaning B.Device.meaning k calls.now) }
 {
     let mut board = Board::make(processors, clock, words, first, second, messages, trail);
     board.call_all(messages, trail, calls, answers);

@@ -1,6 +1,6 @@
 -- What is left of a text is what is left of it from a place on, unless that is empty.
-use Rattle.std.proofs.Common.{◌≡◌, ℕ, ◌-◌, ◌≤◌, Bool, true, false, cond, ltb, leb, List, length, drop, Some, None, Option, refl, ap, arith, length-drop}
-use Rattle.std.proofs.lemmas.Bool.{leb-true, leb-false, le-ltb}
+use Rattle.std.proofs.Common.{◌≡◌, ℕ, Bool, true, false, cond, ltb, leb, List, length, drop, Some, None, Option, refl, ap, arith, length-drop}
+use Rattle.std.proofs.lemmas.Bool.{leb-false, le-ltb}
 use Rattle.std.proofs.lemmas.Bool.Decides.{nat_tests}
 use Rattle.text.specs.Parts.{left, some_left, unless_empty}
 

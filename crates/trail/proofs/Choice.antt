@@ -1,5 +1,5 @@
 -- Choosing the later of candidates, and the loop that does so.
-use Rattle.std.proofs.Common.{◌≡◌, ℕ, ◌+◌, ◌<◌, ◌≤◌, Bool, true, false, cond, List, [], ◌∷◌, length, get_or, drop, Some, None, Option, sym, refl, ap, ◌∙◌, arith}
+use Rattle.std.proofs.Common.{◌≡◌, ℕ, ◌+◌, ◌<◌, ◌≤◌, Bool, true, false, cond, List, length, get_or, drop, Some, None, Option, sym, refl, ap, ◌∙◌, arith}
 use Rattle.ordering.specs.Stamps.{below}
 use Rattle.ordering.specs.declared.stamp.Stamp.{Stamp}
 use Rattle.std.proofs.lemmas.List.{at_drop_more, at_drop_all}

@@ -1,8 +1,8 @@
 -- An entry covers the addresses of its words and no others.
-use Rattle.std.proofs.Common.{◌≡◌, ℕ, ◌+◌, ◌*◌, ◌/◌, ◌%◌, ◌<◌, Bool, true, false, cond, ◌&&◌, eqb, ltb, get_or, sym, refl, ap, arith}
+use Rattle.std.proofs.Common.{◌≡◌, ℕ, ◌+◌, ◌*◌, ◌/◌, ◌%◌, Bool, true, false, cond, eqb, ltb, get_or, sym, refl, ap, arith}
 use Rattle.ordering.specs.Operations.{is_block}
 use Rattle.std.proofs.lemmas.Bool.{and_from, and_parts, eq-eqb, eqb-true, lt-ltb, ltb-true}
-use Rattle.trail.specs.Addresses.{address_of, covers, value_at, has_word, CoversOwnWords}
+use Rattle.trail.specs.Addresses.{address_of, covers, has_word, CoversOwnWords}
 use Rattle.trail.specs.declared.address.Address.{Address}
 use Rattle.trail.specs.declared.entry.Entry.{Entry}
 

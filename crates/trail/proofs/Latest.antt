@@ -7,7 +7,7 @@ use Rattle.std.proofs.lemmas.Bool.Decides.{nat_tests}
 use Rattle.std.specs.List.{slice_get}
 use Rattle.trail.proofs.Choice.{falls}
 use Rattle.trail.specs.Addresses.{value_at}
-use Rattle.trail.specs.Sources.{writes_below, candidate, later, latest, told, IsLatest, Source, LatestWrite}
+use Rattle.trail.specs.Sources.{writes_below, later, latest, told, Source, LatestWrite}
 use Rattle.trail.specs.declared.address.Address.{Address}
 use Rattle.trail.specs.declared.entry.Entry.{Entry}
 use Rattle.trail.specs.declared.source.Candidate.{Candidate}

@@ -1,4 +1,5 @@
 use Rattle.std.proofs.Common.{sym, ap, ◌∙◌}
+use Rattle.coherence.proofs.OrderPromise.{order_promise}
 use Rattle.coherence.specs.Worlds.{World}
 use Rattle.raster.proofs.Turns.{run_world}
 use Rattle.raster.proofs.run.run.Goals as goal
@@ -21,4 +22,5 @@ returns g c =
       answers =
           c.call_all.ensures.answers
           ∙ ap (λ (w : World g.A.Device.State g.B.Device.State). overlaid c.args.answers.now (answers_of ma mb w calls)) c.make-board.ensures;
+      promise = order_promise ma mb (record { laws = g.met.A.Device.lawful; four_words = g.met.A.Wishing.four_words }) (record { laws = g.met.B.Device.lawful; four_words = g.met.B.Wishing.four_words }) k calls;
     }

@@ -1,5 +1,4 @@
-use Rattle.std.proofs.Common.{drop, sym, ap, ◌∙◌}
-use Rattle.trail.specs.Sources.{later, latest}
+use Rattle.std.proofs.Common.{sym, ◌∙◌}
 use Rattle.trail.proofs.Choice.{latest_more, latest_all}
 use Rattle.trail.specs.Addresses.{no_entry}
 use Rattle.trail.proofs.source.latest.Goals as goal

@@ -1,4 +1,4 @@
-use Rattle.std.proofs.Common.{ap, ◌∙◌, mod-lt, arith, rules}
+use Rattle.std.proofs.Common.{◌∙◌, arith, rules}
 use Rattle.trail.proofs.Adding.{control_sum_more, control_sum_all}
 use Rattle.trail.specs.Addresses.{no_entry}
 use Rattle.trail.proofs.sum.control_sum.Goals as goal
