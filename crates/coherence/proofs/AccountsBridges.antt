@@ -4,7 +4,7 @@ use Rattle.std.proofs.Common.{◌≡◌, ℕ, Bool, true, false, cond, ◌&&◌,
 use Rattle.bridge.specs.Acts.{act_on, any_out, interrupt, numbering, wish_message}
 use Rattle.bridge.specs.Deeds.{performed}
 use Rattle.bridge.specs.Inputs.{Act, Receive, reaction}
-use Rattle.bridge.specs.Receipts.{again, answering, receive_kind, refused}
+use Rattle.bridge.specs.Receipts.{again, answering, receive_kind}
 use Rattle.bridge.specs.declared.fault.DeviceFault.TheVariants.{BadWish, MustWait, NoWish}
 use Rattle.bridge.specs.declared.plan.Deed.TheVariants.{Interrupt, Resend}
 use Rattle.bridge.specs.declared.state.Bridge.{Bridge}

@@ -9,7 +9,6 @@ use Rattle.message.specs.declared.message.Message.{Message}
 use Rattle.message.specs.declared.reaction.Reaction.{Reaction}
 use Rattle.ordering.specs.Operations.{is, is_block}
 use Rattle.ordering.specs.Stamps.{below}
-use Rattle.ordering.specs.declared.operation.Operation.TheVariants.{LdIo, StIo}
 use Rattle.ordering.specs.declared.stamp.Stamp.{Stamp}
 use Rattle.processor.specs.Inputs as processor
 use Rattle.processor.specs.Laws.{EachReaction}
@@ -19,10 +18,8 @@ use Rattle.trail.specs.Addresses.{covers}
 use Rattle.trail.specs.declared.address.Address.{Address}
 use Rattle.trail.specs.declared.entry.Entry.{Entry}
 use Rattle.coherence.proofs.Blocks.{on}
-use Rattle.coherence.proofs.DeviceWords.{address}
 use Rattle.coherence.proofs.HomeClocks.{HomeTimely, home_timely}
 use Rattle.coherence.proofs.Meeting.{Asks, Meets, at_call, at_first_wish, at_second_wish, to_processor, to_home, to_first, to_second}
-use Rattle.coherence.proofs.Reading.{current}
 use Rattle.coherence.proofs.Timing.{came_so}
 use Rattle.coherence.specs.Steps.{Effect}
 use Rattle.coherence.specs.Worlds.{World, home_at, processor_at}

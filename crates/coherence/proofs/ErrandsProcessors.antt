@@ -2,7 +2,6 @@
 use Rattle.std.proofs.Common.{◌≡◌, ℕ, ◌<◌, true, false, ◌||◌, Some, None, sym, ◌∙◌, arith}
 use Rattle.message.specs.Kinds.{same_kind}
 use Rattle.message.specs.Nodes.{device_node}
-use Rattle.message.specs.Reactions.{sent}
 use Rattle.message.specs.declared.kind.Kind.TheVariants as kind
 use Rattle.message.specs.declared.message.Message.{Message}
 use Rattle.message.specs.declared.reaction.Reaction.{Reaction}

@@ -4,7 +4,7 @@ use Rattle.home.proofs.Back.{one_more}
 use Rattle.home.specs.Directories.{view, awaits}
 use Rattle.home.specs.Laws.{is_free}
 use Rattle.home.specs.Plans.{plan}
-use Rattle.home.specs.Reactions.{clock_after, words_after, reply, finished, nack, refused, ask_one, asks, began, asked, planned, heard_home, after_hearing, acknowledged, awaits_taken, taken, received}
+use Rattle.home.specs.Reactions.{clock_after, words_after, reply, finished, nack, ask_one, asks, began, asked, planned, heard_home, after_hearing, acknowledged, awaits_taken, taken, received}
 use Rattle.home.specs.Requests.{request_of, asks_down, asks_by, reply_kind, carries_words, gives_copy}
 use Rattle.home.specs.Sets.{has, with_member, is_empty}
 use Rattle.home.specs.declared.machine.Home.{Home}

@@ -18,7 +18,6 @@ use Rattle.coherence.proofs.Tokens.{Tokens}
 use Rattle.coherence.proofs.TokensFinished.{Near}
 use Rattle.coherence.proofs.TokensKept.{near_block, tokens_after, tokens_made, tokens_moved}
 use Rattle.coherence.proofs.Wishes.{Lawful}
-use Rattle.coherence.specs.Histories.{run}
 use Rattle.coherence.specs.Makings.{Making, make}
 use Rattle.coherence.specs.Steps.{Effect, figures, step, waiting}
 use Rattle.coherence.specs.Worlds.{World}

@@ -1,6 +1,6 @@
 -- The moves of one block's protocol: every accepted call is one of them for each block, or two in turn, where a home that
 -- takes a request or hears the last acknowledgement also finishes. x is the block before, y after.
-use Rattle.std.proofs.Common.{◌≡◌, ℕ, ◌+◌, ◌/◌, ◌<◌, ◌≤◌, true, cond, eqb, ◌⊎◌, [], ◌∷◌, ◌++◌, length, Some, None, Option}
+use Rattle.std.proofs.Common.{◌≡◌, ℕ, ◌/◌, ◌<◌, ◌≤◌, true, cond, eqb, ◌⊎◌, [], ◌∷◌, ◌++◌, length, Some, None, Option}
 use Rattle.home.specs.Directories.{view, awaits, freed}
 use Rattle.home.specs.Homes.{home}
 use Rattle.home.specs.Plans.{plan}

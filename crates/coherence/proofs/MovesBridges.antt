@@ -24,7 +24,7 @@ use Rattle.std.proofs.lemmas.Bool.{and_from, and_right, cases_Bool, cases_eq, eq
 use Rattle.std.proofs.lemmas.Bool.Decides.{nat_tests}
 use Rattle.std.specs.Option.{option_to_list}
 use Rattle.trail.specs.declared.entry.Entry.{Entry}
-use Rattle.coherence.proofs.Blocks.{Block, Posted, block, about, on, token, peer, done_to_device}
+use Rattle.coherence.proofs.Blocks.{Block, Posted, about, on, token, peer, done_to_device}
 use Rattle.coherence.proofs.Carrying.{is_block_request}
 use Rattle.coherence.proofs.Moves.{Moves, Takes, OutPut, OutsStay, rests, requests, lands, stored, again as sends_again}
 use Rattle.coherence.proofs.MovesDeliveries.{nack_token}

@@ -9,7 +9,7 @@ use Rattle.message.specs.declared.kind.Kind.{Kind}
 use Rattle.message.specs.declared.message.Message.{Message}
 use Rattle.message.specs.declared.reaction.Reaction.{Reaction}
 use Rattle.ordering.specs.declared.operation.Operation.TheVariants.{Ld, St}
-use Rattle.processor.specs.Calls.{operation_entry, request}
+use Rattle.processor.specs.Calls.{operation_entry}
 use Rattle.processor.specs.Inputs.{Input, Load, Store, Request, Ldio, Stio, Collect, GiveUp, Poll, Receive, reaction, message_of}
 use Rattle.processor.specs.Lines.{line_at, held_words, with_line, with_word, word_of, block_of}
 use Rattle.processor.specs.declared.line.Line.{Line}

@@ -3,9 +3,8 @@ use Rattle.std.proofs.Common.{◌≡◌, ℕ, true, false, ◌||◌, eqb, [], If
 use Rattle.home.proofs.Back.{one_more}
 use Rattle.home.proofs.Keeps.{by_rule}
 use Rattle.home.specs.Directories.{view, awaits}
-use Rattle.home.specs.Homes.{home}
 use Rattle.home.specs.Plans.{plan}
-use Rattle.home.specs.Reactions.{reply, finished, ask_one, asks, began, asked, heard_home, after_hearing, awaits_taken, received}
+use Rattle.home.specs.Reactions.{finished, ask_one, asks, began, heard_home, after_hearing, awaits_taken, received}
 use Rattle.home.specs.Requests.{request_of, asks_by, reply_kind}
 use Rattle.home.specs.Sets.{has, is_empty}
 use Rattle.home.specs.declared.directory.Directory.{Directory}

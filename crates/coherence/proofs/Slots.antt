@@ -5,7 +5,6 @@ use Rattle.bridge.specs.Inputs as bridge
 use Rattle.device.specs.Meaning.{Meaning}
 use Rattle.message.specs.Kinds.{is_request}
 use Rattle.message.specs.Nodes.{device_node}
-use Rattle.message.specs.Reactions.{sent}
 use Rattle.message.specs.declared.kind.Kind.{Kind}
 use Rattle.message.specs.declared.message.Message.{Message}
 use Rattle.message.specs.declared.reaction.Outbox.{Outbox}

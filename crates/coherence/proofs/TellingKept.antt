@@ -10,7 +10,7 @@ use Rattle.processor.specs.declared.state.Processor.{Processor}
 use Rattle.std.proofs.lemmas.Bool.Decides as ways
 use Rattle.std.specs.Option.{option_map}
 use Rattle.trail.specs.declared.entry.Entry.{Entry}
-use Rattle.coherence.proofs.Arising.{never, came}
+use Rattle.coherence.proofs.Arising.{never}
 use Rattle.coherence.proofs.Clocks.{Timely}
 use Rattle.coherence.proofs.Growing.{trail_on, trail_new}
 use Rattle.coherence.proofs.Meeting.{Asks, Meets, at_call, at_first_wish, at_second_wish, to_processor, to_home, to_first, to_second}

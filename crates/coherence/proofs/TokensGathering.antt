@@ -10,7 +10,7 @@ use Rattle.home.specs.declared.directory.Phase.TheVariants.{Free}
 use Rattle.home.specs.declared.machine.Home.{Home}
 use Rattle.home.specs.declared.processors.Processors.{Processors}
 use Rattle.message.specs.Kinds.{kind_number, is_request}
-use Rattle.message.specs.Reactions.{gathered, sent}
+use Rattle.message.specs.Reactions.{sent}
 use Rattle.message.specs.declared.kind.Kind.{Kind}
 use Rattle.message.specs.declared.kind.Kind.TheVariants as kind
 use Rattle.message.specs.declared.message.Message.{Message}

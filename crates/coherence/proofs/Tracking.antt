@@ -17,7 +17,6 @@ use Rattle.std.proofs.lemmas.Bool.Decides.{nat_tests}
 use Rattle.std.specs.List.{AllByRecursion as All, slice_get}
 use Rattle.coherence.proofs.Arrivals.{counted_about}
 use Rattle.coherence.proofs.Blocks.{about, block, peer, pending, request_out, token}
-use Rattle.coherence.proofs.Carrying.{gathers}
 use Rattle.coherence.proofs.Clocks.{clock_at}
 use Rattle.coherence.proofs.FormsBuilt.{Well}
 use Rattle.coherence.proofs.Orderly.{Tracked, asks_about, gathers_for, now, requests_at}

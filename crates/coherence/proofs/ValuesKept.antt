@@ -1,6 +1,6 @@
 -- Every move of a block keeps its values, and so do two in turn, and they stand at the making; and whatever a move reads is
 -- what stands in the block.
-use Rattle.std.proofs.Common.{◌≡◌, ℕ, zero, suc, ◌+◌, ◌*◌, ◌<◌, true, [], ◌∷◌, ◌++◌, length, get_or, sym, refl, ap, ◌∙◌, subst, inl, arith}
+use Rattle.std.proofs.Common.{◌≡◌, ℕ, zero, suc, ◌+◌, ◌*◌, ◌<◌, [], ◌∷◌, ◌++◌, length, get_or, sym, refl, ap, ◌∙◌, subst, inl, arith}
 use Rattle.device.specs.Meaning.{Meaning}
 use Rattle.home.specs.Homes.{new_home}
 use Rattle.home.specs.declared.machine.Home.{Home}

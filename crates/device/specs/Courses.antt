@@ -1,6 +1,6 @@
 -- Whole sweeps: which wish a device has once so many were accepted, whatever else was done to it meanwhile.
 use Rattle.std.specs.Prelude.{◌≡◌, ℕ, ◌+◌, ◌%◌, ◌^◌, cond, List, Some, None, Option, ◌==◌, ◌≢◌, nat_lt, slice_index}
-use Rattle.std.specs.List.{AllByRecursion as All}
+use Rattle.std.specs.List.{AllByRecursion}
 use Rattle.ordering.specs.declared.operation.Operation.TheVariants.{LdBlk, StBlk}
 use Rattle.ordering.specs.Words.{no_words}
 use Rattle.device.specs.declared.meaning.Wish.{Wish}
@@ -50,11 +50,11 @@ told m t s v es = after m (m.writing s t.command v) es
 -- Command 1 takes over first block and count, and the wishes then come in turn, whatever is read, lands or is
 -- written to other words meanwhile; after any other command there are none. `at` gives the states that are meant.
 pub record Sweeps {P S : Type 0} (m : Meaning S) (at : P → S) (t : Task) : Type 0 where
-  pub in_turn : (p : P) (es : List Event) → All (Leaves t.command) es →
+  pub in_turn : (p : P) (es : List Event) → AllByRecursion (Leaves t.command) es →
       m.wish (told m t (at p) 1 es)
       ≡ due t (first_block t (m.words (at p))) (block_count t (m.words (at p))) (accepted_in es)
       (m.words (told m t (at p) 1 es))
-  pub stopped : (p : P) (v : ℕ) → (v ≢ 1) → (es : List Event) → All (Leaves t.command) es →
+  pub stopped : (p : P) (v : ℕ) → (v ≢ 1) → (es : List Event) → AllByRecursion (Leaves t.command) es →
       m.wish (told m t (at p) v es) ≡ None
 
 abbrev pub fetching : ℕ → Task

@@ -8,7 +8,7 @@ use Rattle.message.specs.declared.message.Message.{Message}
 use Rattle.message.specs.declared.reaction.Reaction.{Reaction}
 use Rattle.ordering.specs.Operations.{is_write}
 use Rattle.ordering.specs.declared.operation.Words.{Words}
-use Rattle.std.specs.List.{AllByRecursion as All}
+use Rattle.std.specs.List.{AllByRecursion}
 use Rattle.home.specs.Plans.{plan}
 use Rattle.home.specs.Reactions.{finished, heard_home, received}
 use Rattle.home.specs.Requests.{operation_for}
@@ -51,7 +51,7 @@ pub record GivenBack (h : Home ℕ) (b : ℕ) (m : Message ℕ) (x : Reaction (H
 abbrev pub NacksGiveBack : Type 0
 NacksGiveBack =
     (h : Home ℕ) (b : ℕ) (m : Message ℕ)
-    → IfSome (received h b m) (λ x. All (λ n. same_kind n.kind Nack ≡ true → GivenBack h b m x n) (sent x.sent))
+    → IfSome (received h b m) (λ x. AllByRecursion (λ n. same_kind n.kind Nack ≡ true → GivenBack h b m x n) (sent x.sent))
 
 -- Once busy, it is free again only by TAKEN from the requester, and that does free it.
 pub record FreedBy (h : Home ℕ) (m : Message ℕ) : Type 0 where
@@ -86,7 +86,7 @@ pub record PassedOnce (h : Home ℕ) (x : Reaction (Home ℕ)) : Type 0 where
   pub asked : is_some (operation_for h.directory.request.kind) ≡ true → h.directory.request.clock < x.next.clock.global
   pub least : (n : ℕ) → h.clock.global ≤ n → h.directory.latest ≤ n → h.directory.request.clock ≤ n → x.next.clock.global ≤ n + 1
   pub stamped : IfSome x.entry (λ e. e.stamp.global ≡ x.next.clock.global)
-  pub replied : All (λ n. n.clock ≡ x.next.clock.global) (sent x.sent)
+  pub replied : AllByRecursion (λ n. n.clock ≡ x.next.clock.global) (sent x.sent)
   pub waits : x.next.directory.phase ≡ Replied
 
 abbrev pub FinishesAboveAll : Type 0
@@ -112,7 +112,7 @@ pub record RepliedAbove (h : Home ℕ) (m : Message ℕ) (x : Reaction (Home ℕ
   pub earlier : same_kind m.kind Ack ≡ true → h.directory.latest < x.next.clock.global
   pub request : same_kind m.kind Ack ≡ true → is_some (operation_for h.directory.request.kind) ≡ true → h.directory.request.clock < x.next.clock.global
   pub stamped : IfSome x.entry (λ e. e.stamp.global ≡ x.next.clock.global)
-  pub replied : All (λ n. n.clock ≡ x.next.clock.global) (sent x.sent)
+  pub replied : AllByRecursion (λ n. n.clock ≡ x.next.clock.global) (sent x.sent)
 
 abbrev pub RepliesAboveAll : Type 0
 RepliesAboveAll =
@@ -141,7 +141,7 @@ pub record ServesAsAsked (h : Home ℕ) (b : ℕ) : Type 0 where
   pub written : same_kind h.directory.request.kind Wblk ≡ true → (finished h b).next.words ≡ h.directory.request.words
   pub writes : same_kind h.directory.request.kind Wblk ≡ true → IfSome (finished h b).entry (λ e. e.values ≡ h.directory.request.words)
   pub reads : same_kind h.directory.request.kind Rblk ≡ true → IfSome (finished h b).entry (λ e. e.values ≡ h.words)
-  pub told : same_kind h.directory.request.kind Rblk ≡ true → All (λ n. n.words ≡ h.words) (sent (finished h b).sent)
+  pub told : same_kind h.directory.request.kind Rblk ≡ true → AllByRecursion (λ n. n.words ≡ h.words) (sent (finished h b).sent)
   pub issuer : IfSome (finished h b).entry (λ e. (e.party ≡ h.directory.request.requester) × (e.sequence ≡ h.directory.request.sequence))
 
 abbrev pub HomesServeAsAsked : Type 0
