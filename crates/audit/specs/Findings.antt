@@ -1,5 +1,5 @@
 -- What the audit finds of one word of a read, and the line that tells it.
-use Rattle.std.specs.Prelude.{ℕ, cond, List, [], ◌∷◌, ◌++◌, length, Some, None, Ok, Err, codes, decimal, Option, ◌==◌, nat_lt, slice_index_or}
+use Rattle.std.specs.Prelude.{ℕ, cond, List, ◌++◌, length, Some, None, Ok, Err, codes, decimal, Option, ◌==◌, nat_lt, slice_index_or}
 use Rattle.trail.specs.Addresses.{no_entry, address_of, value_at}
 use Rattle.trail.specs.Sources.{source_of}
 use Rattle.trail.specs.declared.entry.Entry.{Entry}

@@ -1,5 +1,5 @@
 -- What is committed at one bridge is what is committed in the world.
-use Rattle.std.proofs.Common.{◌≡◌, ℕ, ◌+◌, Bool, true, false, cond, leb, List, ◌++◌, length, refl, ap, ◌∙◌}
+use Rattle.std.proofs.Common.{◌≡◌, ℕ, ◌+◌, Bool, true, false, cond, leb, List, length, refl, ap, ◌∙◌}
 use Rattle.bridge.specs.declared.state.Bridge.{Bridge}
 use Rattle.coherence.specs.Steps.{Answer, committed, by_first, by_second, bridge_within}
 use Rattle.coherence.specs.Worlds.{World, with_first, with_second, with_lists}

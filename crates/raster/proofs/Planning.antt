@@ -1,5 +1,5 @@
 -- What a plan leads to is what it says: its messages, its entries and its numbers.
-use Rattle.std.proofs.Common.{◌≡◌, ℕ, ◌+◌, ◌≤◌, true, false, cond, leb, List, ◌++◌, length, is_some, Some, None, Ok, Err, Option, refl, ap, ◌∙◌, arith}
+use Rattle.std.proofs.Common.{◌≡◌, ℕ, ◌+◌, ◌≤◌, cond, List, ◌++◌, length, is_some, Some, None, Ok, Err, Option, refl, ap, ◌∙◌, arith}
 use Rattle.bridge.proofs.Writing.{plans_are_kept}
 use Rattle.bridge.specs.Deeds.{performed}
 use Rattle.bridge.specs.Plans.{sends, enters, plan_within}

@@ -1,5 +1,5 @@
 -- What a list of messages is once one is taken out, and once an outbox is emptied into it.
-use Rattle.std.proofs.Common.{◌≡◌, ℕ, ◌+◌, ◌-◌, ◌<◌, ◌≤◌, Bool, true, false, cond, ltb, List as Seq, [], ◌∷◌, ◌++◌, length, get_or, take, drop, Some, None, Option, sym, refl, ap, ◌∙◌, subst, add-one, arith, drop-cons, lt-ltb}
+use Rattle.std.proofs.Common.{◌≡◌, ℕ, ◌+◌, ◌-◌, ◌<◌, ◌≤◌, ltb, List as Seq, [], ◌∷◌, ◌++◌, length, get_or, drop, Some, None, Option, sym, ap, ◌∙◌, subst, add-one, arith, drop-cons, lt-ltb}
 use Rattle.list.specs.Contents.{pushed, removed}
 use Rattle.message.specs.Reactions.{gathered}
 use Rattle.message.specs.declared.message.Message.{Message}

@@ -1,5 +1,5 @@
 -- A bridge's reaction is its decision, performed: from a decision to the step that a call or a delivery makes.
-use Rattle.std.proofs.Common.{◌≡◌, ℕ, List, Some, None, Ok, Err, Option, Result, sym, refl, ap, ◌∙◌}
+use Rattle.std.proofs.Common.{◌≡◌, ℕ, Some, None, Ok, Err, Option, Result, sym, ap}
 use Rattle.bridge.specs.Acts.{act_plan}
 use Rattle.bridge.specs.Deeds.{performed}
 use Rattle.bridge.specs.Receipts.{receive_plan}

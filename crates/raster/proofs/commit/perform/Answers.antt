@@ -1,4 +1,3 @@
-use Rattle.std.proofs.Common.{rules}
 use Rattle.raster.specs.Fitting.{planned}
 use Rattle.raster.proofs.commit.perform.Goals as goal
 

@@ -1,4 +1,4 @@
-use Rattle.std.proofs.Common.{sym, rules}
+use Rattle.std.proofs.Common.{sym}
 use Rattle.raster.proofs.making.word_at.Goals as goal
 use Rattle.std.proofs.lemmas.List.{get_or_past}
 

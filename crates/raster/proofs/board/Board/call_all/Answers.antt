@@ -1,4 +1,4 @@
-use Rattle.std.proofs.Common.{◌≡◌, ℕ, ◌+◌, List, get_or, take, set, sym, refl, ap, ◌∙◌}
+use Rattle.std.proofs.Common.{◌≡◌, ◌+◌, List, get_or, take, set, sym, refl, ap, ◌∙◌}
 use Rattle.coherence.specs.Steps.{Answer, step}
 use Rattle.coherence.specs.Worlds.{World}
 use Rattle.coherence.specs.declared.call.Call.{Call}
