@@ -1,6 +1,6 @@
 //! What the calls of processors do: the checks in the order of their numbers, the processor's reaction, one commit.
 
-ghost use Rattle.std.specs.Prelude.{◌≡◌, ◌<◌, true, ltb, length, is_some, IfOk, if◌then◌else◌, None, Ok, OnOk, nat_lt, slice_index_or};
+ghost use Rattle.std.specs.Prelude.{◌≡◌, ◌<◌, true, length, is_some, IfOk, if◌then◌else◌, None, Ok, OnOk, nat_lt, slice_index_or};
 ghost use Rattle.coherence.specs.Steps.{check, argument, step};
 ghost use Rattle.coherence.specs.Worlds.{no_processor};
 ghost use Rattle.coherence.specs.declared.call.Call.TheVariants.{Load, Store, Request, LdIo, StIo, Collect, GiveUp, Poll};
@@ -35,7 +35,7 @@ impl<A: Device, B: Device> Board<A, B> {
 
     // How many words a device has; every number but 0 stands for the second.
     pub(crate) fn word_count(&self, device: u32) -> u32
-        ensures { result ≡ length (if ltb device 1 then A.Device.meaning.words (A.Device.state self.now.first.device) else B.Device.meaning.words (B.Device.state self.now.second.device)) }
+        ensures { result ≡ length (if nat_lt device 1 then A.Device.meaning.words (A.Device.state self.now.first.device) else B.Device.meaning.words (B.Device.state self.now.second.device)) }
     {
         if device < 1 {
             self.first.device.count()
@@ -46,9 +46,9 @@ impl<A: Device, B: Device> Board<A, B> {
 
     // A word of a device: the second and the third argument.
     fn check_device_word(&self, device: u32, word: u32) -> Result<(), Fault>
-        ensures value { result ≡ check (nat_lt device 2) (argument 2) (check (nat_lt word (length (if ltb device 1 then A.Device.meaning.words (A.Device.state self.now.first.device) else B.Device.meaning.words (B.Device.state self.now.second.device)))) (argument 3) (Ok tt)) }
+        ensures value { result ≡ check (nat_lt device 2) (argument 2) (check (nat_lt word (length (if nat_lt device 1 then A.Device.meaning.words (A.Device.state self.now.first.device) else B.Device.meaning.words (B.Device.state self.now.second.device)))) (argument 3) (Ok tt)) }
         ensures device { OnOk result (nat_lt device 2 ≡ true) }
-        ensures word { OnOk result (nat_lt word (length (if ltb device 1 then A.Device.meaning.words (A.Device.state self.now.first.device) else B.Device.meaning.words (B.Device.state self.now.second.device))) ≡ true) }
+        ensures word { OnOk result (nat_lt word (length (if nat_lt device 1 then A.Device.meaning.words (A.Device.state self.now.first.device) else B.Device.meaning.words (B.Device.state self.now.second.device))) ≡ true) }
     {
         check_below(device, 2, 2)?;
         check_below(word, self.word_count(device), 3)
