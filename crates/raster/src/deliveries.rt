@@ -1,7 +1,7 @@
 //! What a delivery does: the message is taken out and reaches its receiver, one node, which reacts.
 
 ghost use Rattle.std.specs.Prelude.{◌≡◌, ◌<◌, true, [], ◌∷◌, length, is_some, IfSome, IfOk, None, OnOk, nat_lt, slice_index_or};
-ghost use Rattle.bridge.specs.Reactions as bridge-messages;
+ghost use Rattle.bridge.specs.Reactions as bridge_messages;
 ghost use Rattle.bridge.specs.States.{view};
 ghost use Rattle.coherence.specs.Steps.{step, settled, ruled, delivered, by_processor, by_home, by_first, by_second};
 ghost use Rattle.coherence.specs.Worlds.{no_processor, no_home};
@@ -117,7 +117,7 @@ impl<A: Device, B: Device> Board<A, B> {
         place: usize,
         message: Message<u32>,
     ) -> Result<(), Fault>
-        ensures { (done result, world A.Device.state B.Device.state self.new messages.new trail.new) ≡ settled A.Device.meaning B.Device.meaning (Deliver place) (world A.Device.state B.Device.state self.old messages.old trail.old) (ruled A.Device.meaning B.Device.meaning (world A.Device.state B.Device.state self.old messages.old trail.old) place (option_map (by_first (world A.Device.state B.Device.state self.old messages.old trail.old)) (bridge-messages.receive A.Device.meaning 0 (view A.Device.state self.old.first) message))) }
+        ensures { (done result, world A.Device.state B.Device.state self.new messages.new trail.new) ≡ settled A.Device.meaning B.Device.meaning (Deliver place) (world A.Device.state B.Device.state self.old messages.old trail.old) (ruled A.Device.meaning B.Device.meaning (world A.Device.state B.Device.state self.old messages.old trail.old) place (option_map (by_first (world A.Device.state B.Device.state self.old messages.old trail.old)) (bridge_messages.receive A.Device.meaning 0 (view A.Device.state self.old.first) message))) }
     {
         let Some(plan) = self.first.receive(0, message) else {
             return Err(Fault::Network(NetworkFault::NoRule(place)));
@@ -132,7 +132,7 @@ impl<A: Device, B: Device> Board<A, B> {
         place: usize,
         message: Message<u32>,
     ) -> Result<(), Fault>
-        ensures { (done result, world A.Device.state B.Device.state self.new messages.new trail.new) ≡ settled A.Device.meaning B.Device.meaning (Deliver place) (world A.Device.state B.Device.state self.old messages.old trail.old) (ruled A.Device.meaning B.Device.meaning (world A.Device.state B.Device.state self.old messages.old trail.old) place (option_map (by_second (world A.Device.state B.Device.state self.old messages.old trail.old)) (bridge-messages.receive B.Device.meaning 1 (view B.Device.state self.old.second) message))) }
+        ensures { (done result, world A.Device.state B.Device.state self.new messages.new trail.new) ≡ settled A.Device.meaning B.Device.meaning (Deliver place) (world A.Device.state B.Device.state self.old messages.old trail.old) (ruled A.Device.meaning B.Device.meaning (world A.Device.state B.Device.state self.old messages.old trail.old) place (option_map (by_second (world A.Device.state B.Device.state self.old messages.old trail.old)) (bridge_messages.receive B.Device.meaning 1 (view B.Device.state self.old.second) message))) }
     {
         let Some(plan) = self.second.receive(1, message) else {
             return Err(Fault::Network(NetworkFault::NoRule(place)));
