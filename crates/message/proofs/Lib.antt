@@ -1,4 +1,3 @@
-pub mod Alike
 pub mod Counts
 pub mod Numbering
 pub mod Oldest

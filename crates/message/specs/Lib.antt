@@ -7,3 +7,4 @@ pub mod Nodes
 pub mod Pairs
 pub mod Reactions
 pub mod Requests
+pub mod Tables

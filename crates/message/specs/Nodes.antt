@@ -1,7 +1,7 @@
 -- Node numbers: 0 to 3 are processors, 4 and 5 the devices, and 16 + b is the home of block b.
-use Rattle.std.specs.Prelude.{ℕ, ◌+◌, ◌-◌, Bool, cond, ◌&&◌, ◌||◌, ◌==◌, nat_le, nat_lt}
+use Rattle.std.specs.Prelude.{ℕ, ◌+◌, ◌-◌, Bool, cond, ◌&&◌, ◌||◌, Some, None, Option, ◌==◌, nat_le, nat_lt}
 use Rattle.message.specs.declared.node.Node.{Node}
-use Rattle.message.specs.declared.node.Node.TheVariants.{Nowhere, Processor, Device, Home}
+use Rattle.message.specs.declared.node.Node.TheVariants.{Processor, Device, Home}
 
 abbrev pub device_node : ℕ → ℕ
 device_node d = 4 + d
@@ -9,11 +9,11 @@ device_node d = 4 + d
 abbrev pub home_node : ℕ → ℕ
 home_node b = 16 + b
 
-abbrev pub node_numbered : ℕ → Node
+abbrev pub node_numbered : ℕ → Option Node
 node_numbered n =
-    cond (nat_lt n 4) (Processor n)
-    (cond (nat_lt n 6) (Device (n - 4))
-    (cond (nat_le 16 n && nat_lt n 32) (Home (n - 16)) Nowhere))
+    cond (nat_lt n 4) (Some (Processor n))
+    (cond (nat_lt n 6) (Some (Device (n - 4)))
+    (cond (nat_le 16 n && nat_lt n 32) (Some (Home (n - 16))) None))
 
 abbrev pub is_processor : ℕ → Bool
 is_processor n = nat_lt n 4

@@ -2,7 +2,11 @@
 use Rattle.std.specs.Prelude.{ℕ, Bool, false, Some, None, Option, slice_index_or, slice_set}
 use Rattle.message.specs.Kinds.{same_kind}
 use Rattle.message.specs.declared.kind.Kind.{Kind}
-use Rattle.message.specs.declared.requests.Requests.{Requests}
+use Rattle.message.specs.declared.table.Table.{Table}
+
+-- By block.
+abbrev pub Requests : Type 0
+Requests = Table (Option Kind) 16
 
 abbrev pub out : Requests → ℕ → Option Kind
 out r b = slice_index_or r.at b None

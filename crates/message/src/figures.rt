@@ -52,13 +52,13 @@ impl Figures {
 fn rest_is_zero(words: Words) -> bool
     ensures { result ≡ rest_is_zero words }
 {
-    words.at[1] == 0 && words.at[2] == 0 && words.at[3] == 0
+    matches!(words.at, [_, 0, 0, 0])
 }
 
 fn all_are_zero(words: Words) -> bool
     ensures { result ≡ all_are_zero words }
 {
-    words.at[0] == 0 && rest_is_zero(words)
+    words == Words::ZERO
 }
 
 impl Fill {

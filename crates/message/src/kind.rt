@@ -3,9 +3,9 @@
 ghost use Rattle.std.specs.Prelude.{◌≡◌};
 ghost use Rattle.message.specs.Kinds.{kind_number, same_kind, is_request, request_numbered};
 
-#[derive(Clone, Copy)]
+#[derive(Clone, Copy, Debug, PartialEq, Eq)]
 pub enum Kind {
-    Gets,
+    Gets = 1,
     Getx,
     Upg,
     Wb,
@@ -32,41 +32,23 @@ impl Kind {
     pub fn number(self) -> u32
         ensures { result ≡ kind_number self }
     {
-        match self {
-            Kind::Gets => 1,
-            Kind::Getx => 2,
-            Kind::Upg => 3,
-            Kind::Wb => 4,
-            Kind::Rblk => 5,
-            Kind::Wblk => 6,
-            Kind::Rio => 7,
-            Kind::Wio => 8,
-            Kind::Int => 9,
-            Kind::Inv => 10,
-            Kind::Down => 11,
-            Kind::Ack => 12,
-            Kind::SData => 13,
-            Kind::XData => 14,
-            Kind::Grant => 15,
-            Kind::Done => 16,
-            Kind::Words => 17,
-            Kind::Value => 18,
-            Kind::Nack => 19,
-            Kind::Taken => 20,
-        }
+        self as u32
     }
 
     pub fn is(self, other: Kind) -> bool
         ensures { result ≡ same_kind self other }
     {
-        self.number() == other.number()
+        self == other
     }
 
     /// Whether a home is asked for its block by it.
     pub fn is_request(self) -> bool
         ensures { result ≡ is_request self }
     {
-        self.number() <= 6
+        matches!(
+            self,
+            Kind::Gets | Kind::Getx | Kind::Upg | Kind::Wb | Kind::Rblk | Kind::Wblk
+        )
     }
 
     /// The kind that a processor may ask for by its number.

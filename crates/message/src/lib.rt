@@ -11,3 +11,4 @@ pub mod node;
 pub mod pair;
 pub mod reaction;
 pub mod requests;
+pub mod table;

@@ -3,23 +3,23 @@
 ghost use Rattle.std.specs.Prelude.{◌≡◌};
 ghost use Rattle.message.specs.Nodes.{node_numbered, is_processor, is_device};
 
-#[derive(Clone, Copy)]
+#[derive(Clone, Copy, Debug, PartialEq, Eq)]
 pub enum Node {
-    Nowhere,
     Processor(u32),
     Device(u32),
     Home(u32),
 }
 
 impl Node {
-    pub fn numbered(number: u32) -> Node
+    /// The node of this number, if there is one.
+    pub fn numbered(number: u32) -> Option<Node>
         ensures { result ≡ node_numbered number }
     {
         match number {
-            0..=3 => Node::Processor(number),
-            4..=5 => Node::Device(number - 4),
-            16..=31 => Node::Home(number - 16),
-            _ => Node::Nowhere,
+            0..=3 => Some(Node::Processor(number)),
+            4..=5 => Some(Node::Device(number - 4)),
+            16..=31 => Some(Node::Home(number - 16)),
+            _ => None,
         }
     }
 }

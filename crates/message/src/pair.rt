@@ -1,7 +1,6 @@
 //! The order of the network: between a processor and a device, each way, the oldest message goes first.
 
-ghost use Rattle.std.specs.Prelude.{◌≡◌, ◌≤◌, length, take, is_some, nat_lt};
-ghost use Rattle.std.specs.List.{slice_get};
+ghost use Rattle.std.specs.Prelude.{◌≡◌};
 ghost use Rattle.message.specs.Pairs.{is_pair, goes_alike, first_alike, oldest_of_pair};
 
 use crate::message::Message;
@@ -20,23 +19,12 @@ fn goes_alike(first: Message, second: Message) -> bool
     first.sender == second.sender && first.receiver == second.receiver
 }
 
-fn at(messages: &[Message], place: usize) -> Option<Message>
-    ensures answer { result ≡ slice_get messages.now place }
-    ensures test { is_some result ≡ nat_lt place (length messages.now) }
+// The place of the first that goes the way of `message`.
+fn first_alike(messages: &[Message], message: Message) -> Option<usize>
+    ensures { result ≡ first_alike message messages.now 0 }
 {
-    if place >= messages.len() {
-        return None;
-    }
-    Some(messages[place])
-}
-
-// The place of the first message below `end` that goes the way of `message`.
-fn first_alike(messages: &[Message], end: usize, message: Message) -> Option<usize>
-    requires { end ≤ length messages.now }
-    ensures { result ≡ first_alike message (take end messages.now) 0 }
-{
-    for place in 0..end {
-        if goes_alike(messages[place], message) {
+    for (place, other) in messages.iter().enumerate() {
+        if goes_alike(*other, message) {
             return Some(place);
         }
     }
@@ -47,9 +35,9 @@ fn first_alike(messages: &[Message], end: usize, message: Message) -> Option<usi
 pub fn oldest_of_pair(messages: &[Message], place: usize) -> Option<usize>
     ensures { result ≡ oldest_of_pair messages.now place }
 {
-    let message = at(messages, place)?;
+    let message = messages.get(place).copied()?;
     if !goes_in_order(message.sender, message.receiver) {
         return None;
     }
-    first_alike(messages, place, message)
+    first_alike(&messages[..place], message)
 }

@@ -1,7 +1,7 @@
 //! What a node does when it is called or a message reaches it: a value that touches nothing.
 
 ghost use Rattle.std.specs.Prelude.{◌≡◌};
-ghost use Rattle.message.specs.Reactions.{silent, single, sent_count};
+ghost use Rattle.message.specs.Reactions.{silent, single, sent_count, telling, quiet, sending, doing};
 
 use crate::message::Message;
 use trail::entry::Entry;
@@ -28,13 +28,11 @@ impl Outbox {
     }
 
     /// How many messages it holds.
+    #[tactic(auto, using(crate::proofs::Counts::full_places))]
     pub fn count(self) -> usize
         ensures { result ≡ sent_count self }
     {
-        usize::from(self.at[0].is_some())
-            + usize::from(self.at[1].is_some())
-            + usize::from(self.at[2].is_some())
-            + usize::from(self.at[3].is_some())
+        self.at.iter().filter(|place| place.is_some()).count()
     }
 }
 
@@ -46,4 +44,45 @@ pub struct Reaction<S> {
     pub sent: Outbox,
     pub entry: Option<Entry>,
     pub answer: Option<u32>,
+}
+
+impl<S> Reaction<S> {
+    pub fn telling(next: S, answer: Option<u32>) -> Reaction<S>
+        ensures { result ≡ telling answer next }
+    {
+        Reaction {
+            next,
+            sent: Outbox::silent(),
+            entry: None,
+            answer,
+        }
+    }
+
+    pub fn quiet(next: S) -> Reaction<S>
+        ensures { result ≡ quiet next }
+    {
+        Reaction::telling(next, None)
+    }
+
+    pub fn sending(next: S, message: Message) -> Reaction<S>
+        ensures { result ≡ sending message next }
+    {
+        Reaction {
+            next,
+            sent: Outbox::single(message),
+            entry: None,
+            answer: None,
+        }
+    }
+
+    pub fn doing(next: S, entry: Entry, answer: Option<u32>) -> Reaction<S>
+        ensures { result ≡ doing entry answer next }
+    {
+        Reaction {
+            next,
+            sent: Outbox::silent(),
+            entry: Some(entry),
+            answer,
+        }
+    }
 }

@@ -7,7 +7,7 @@ ghost use Rattle.ordering.specs.Clocks.{counted, passed, settled};
 /// Where global, local and sequence numbers end.
 pub const END: u32 = 1_000_000_000;
 
-#[derive(Clone, Copy)]
+#[derive(Clone, Copy, Debug, PartialEq, Eq)]
 pub struct Clock<N = u32> {
     pub global: N,
     pub local: N,

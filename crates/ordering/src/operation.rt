@@ -4,7 +4,7 @@ ghost use Rattle.std.specs.Prelude.{◌≡◌};
 ghost use Rattle.ordering.specs.Operations.{is_read, is_write, is_block, name_of};
 ghost use Rattle.ordering.specs.Words.{one_word};
 
-#[derive(Clone, Copy)]
+#[derive(Clone, Copy, Debug, PartialEq, Eq)]
 pub enum Operation {
     Ld,
     St,
@@ -51,7 +51,7 @@ impl Operation {
 }
 
 /// The words of a block, or one word first and then zeros.
-#[derive(Clone, Copy)]
+#[derive(Clone, Copy, Debug, PartialEq, Eq)]
 pub struct Words {
     pub at: [u32; 4],
 }

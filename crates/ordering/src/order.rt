@@ -5,14 +5,14 @@ ghost use Rattle.ordering.specs.Orders.{column, letter, one_target, ordered, Tab
 
 use crate::operation::Operation;
 
-#[derive(Clone, Copy)]
+#[derive(Clone, Copy, Debug, PartialEq, Eq)]
 pub enum Party {
     Processor,
     Device,
 }
 
 /// What an operation goes to.
-#[derive(Clone, Copy)]
+#[derive(Clone, Copy, Debug, PartialEq, Eq)]
 pub struct Access {
     pub operation: Operation,
     pub space: u32,

@@ -5,7 +5,8 @@ ghost use Rattle.ordering.specs.Stamps.{stamped, below, StrictTotalOrder};
 
 use crate::clock::Clock;
 
-#[derive(Clone, Copy)]
+/// Ordered by global number, then local number, then node.
+#[derive(Clone, Copy, Debug, PartialEq, Eq, PartialOrd, Ord)]
 pub struct Stamp {
     pub global: u64,
     pub local: u64,
@@ -24,17 +25,10 @@ impl Stamp {
         }
     }
 
-    /// By global number, then local number, then node.
     pub fn is_below(self, other: Stamp) -> bool
         ensures { result ≡ below self other }
     {
-        if self.global != other.global {
-            return self.global < other.global;
-        }
-        if self.local != other.local {
-            return self.local < other.local;
-        }
-        self.node < other.node
+        self < other
     }
 }
 
