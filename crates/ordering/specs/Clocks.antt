@@ -20,6 +20,10 @@ is_within c = nat_le c.global number_end && nat_le c.local number_end
 abbrev pub settled : Clock ℕ → Option (Clock ℕ)
 settled c = cond (is_within c) (Some c) None
 
+-- An operation with the last number may be done, so the number of the next may stand one past it.
+abbrev pub settled_next : ℕ → Option ℕ
+settled_next n = cond (nat_le n (number_end + 1)) (Some n) None
+
 -- By global number, then local number.
 abbrev pub Earlier : Clock ℕ → Clock ℕ → Type 0
 Earlier c d = (c.global < d.global) ⊎ ((c.global ≡ d.global) × (c.local < d.local))

@@ -1,8 +1,8 @@
 //! Clocks: a global number that passes what it hears, and a local one that counts operations.
 //! `N` is the width of the numbers: 32 bits at rest, 64 where one may stand past the end.
 
-ghost use Rattle.std.specs.Prelude.{◌≡◌, ◌+◌, ◌<◌, max};
-ghost use Rattle.ordering.specs.Clocks.{counted, passed, settled};
+ghost use Rattle.std.specs.Prelude.{◌≡◌, ◌+◌, ◌<◌, max, Option};
+ghost use Rattle.ordering.specs.Clocks.{counted, passed, settled, settled_next};
 
 /// Where global, local and sequence numbers end.
 pub const END: u32 = 1_000_000_000;
@@ -18,16 +18,6 @@ impl Clock {
         ensures { result ≡ max self.global n + 1 }
     {
         u64::from(self.global.max(n)) + 1
-    }
-
-    /// The same clock in the wider numbers.
-    pub fn wide(self) -> Clock<u64>
-        ensures { result ≡ self }
-    {
-        Clock {
-            global: u64::from(self.global),
-            local: u64::from(self.local),
-        }
     }
 
     /// The clock once an operation is counted.
@@ -63,11 +53,34 @@ impl Clock {
     }
 }
 
-impl Clock<u64> {
-    /// The clock at rest again, or none where a number passed its end.
-    pub fn settled(self) -> Option<Clock>
-        ensures { result ≡ settled self }
-    {
+/// The same clock in the wider numbers.
+impl From<Clock> for Clock<u64> {
+    ghost from_gives = { λ clock wide. wide ≡ clock };
+
+    fn from(clock: Clock) -> Clock<u64> {
+        Clock {
+            global: u64::from(clock.global),
+            local: u64::from(clock.local),
+        }
+    }
+}
+
+/// What has numbers that may stand past their end, and comes to rest where none does.
+pub trait Settle {
+    type Rest;
+
+    ghost settled: { Self → Option Self.Rest };
+
+    fn settled(self) -> Option<Self::Rest>
+        ensures { result ≡ settled self };
+}
+
+impl Settle for Clock<u64> {
+    type Rest = Clock;
+
+    ghost settled = { settled };
+
+    fn settled(self) -> Option<Clock> {
         let end = u64::from(END);
         if self.global > end || self.local > end {
             return None;
@@ -77,6 +90,16 @@ impl Clock<u64> {
             local: self.local as u32,
         })
     }
+}
+
+/// The number of a next operation at rest again. The operation of the last number may be done; the next then has none.
+pub fn settled_next(sequence: u64) -> Option<u32>
+    ensures { result ≡ settled_next sequence }
+{
+    if sequence > u64::from(END) + 1 {
+        return None;
+    }
+    Some(sequence as u32)
 }
 
 #[cfg(test)]

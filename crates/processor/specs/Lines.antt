@@ -1,9 +1,13 @@
 -- Cache lines: a processor's copy of each block, and the words in it.
 use Rattle.std.specs.Prelude.{ℕ, ◌/◌, ◌%◌, Some, None, Option, slice_index, slice_index_or, slice_set}
+use Rattle.message.specs.declared.table.Table.{Table}
 use Rattle.ordering.specs.declared.operation.Words.{Words}
 use Rattle.processor.specs.declared.line.Line.{Line}
 use Rattle.processor.specs.declared.line.Line.TheVariants.{Invalid, Shared, Exclusive}
-use Rattle.processor.specs.declared.line.Lines.{Lines}
+
+-- By block.
+abbrev pub Lines : Type 0
+Lines = Table Line 16
 
 -- A line past the last block is Invalid.
 abbrev pub line_at : Lines → ℕ → Line

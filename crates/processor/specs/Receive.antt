@@ -72,12 +72,16 @@ taking s n h b c = sending (plain kind.Taken n h b) (at_request b None (at_clock
 abbrev pub taking_line : Processor ℕ → ℕ → ℕ → ℕ → ℕ → Line → Reaction (Processor ℕ)
 taking_line s n h b c l = taking (at_line b l s) n h b c
 
+-- The request of kind k is answered, and the line becomes l.
+abbrev pub filled : Processor ℕ → ℕ → ℕ → ℕ → ℕ → Kind → Line → Outcome
+filled s n h b c k l = cond (is_out s.requests b k) (Some (taking_line s n h b c l)) None
+
 -- S-DATA answers GETS, X-DATA GETX: the words come into the line.
 abbrev pub shared : Processor ℕ → ℕ → ℕ → ℕ → Words → ℕ → Outcome
-shared s n h b ws c = cond (is_out s.requests b kind.Gets) (Some (taking_line s n h b c (Shared ws))) None
+shared s n h b ws c = filled s n h b c kind.Gets (Shared ws)
 
 abbrev pub owned : Processor ℕ → ℕ → ℕ → ℕ → Words → ℕ → Outcome
-owned s n h b ws c = cond (is_out s.requests b kind.Getx) (Some (taking_line s n h b c (Exclusive ws))) None
+owned s n h b ws c = filled s n h b c kind.Getx (Exclusive ws)
 
 -- GRANT answers UPG at a line S, which becomes X and keeps its words.
 abbrev pub granted : Processor ℕ → ℕ → ℕ → ℕ → ℕ → Outcome
@@ -131,10 +135,10 @@ fetched s d v c =
 abbrev pub fetched_from : Processor ℕ → ℕ → ℕ → ℕ → Outcome
 fetched_from s sender v c =
     elim (node_numbered sender) [
-      | node.Nowhere ↦ None
-      | node.Processor p ↦ None
-      | node.Device d ↦ fetched s d v c
-      | node.Home b ↦ None
+      | None ↦ None
+      | Some (node.Processor p) ↦ None
+      | Some (node.Device d) ↦ fetched s d v c
+      | Some (node.Home b) ↦ None
     ]
 
 -- The rules by kind. Requests, ACK, TAKEN and what goes to devices are not for a processor.

@@ -1,8 +1,12 @@
 -- Slots: one for each device, for the word of an LDio that is under way or has come.
 use Rattle.std.specs.Prelude.{ℕ, Bool, true, false, cond, Some, None, Option, slice_index_or, slice_set}
+use Rattle.message.specs.declared.table.Table.{Table}
 use Rattle.processor.specs.declared.slot.Slot.{Slot}
 use Rattle.processor.specs.declared.slot.Slot.TheVariants.{Free, Awaited, Abandoned, Came}
-use Rattle.processor.specs.declared.slot.Slots.{Slots}
+
+-- By device.
+abbrev pub Slots : Type 0
+Slots = Table Slot 2
 
 abbrev pub slot_at : Slots → ℕ → Slot
 slot_at ss d = slice_index_or ss.at d Free

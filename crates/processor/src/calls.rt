@@ -1,11 +1,11 @@
 //! What a processor does at each call: its reaction, or why it refuses. `node` is its own number.
 
-ghost use Rattle.std.specs.Prelude.{◌≡◌, true, is_some, IfOk, None};
+ghost use Rattle.std.specs.Prelude.{◌≡◌, ◌<◌, true, is_some, IfOk, None};
 ghost use Rattle.processor.specs.Calls.{operation_entry, fetched_all, load, store, fits, request, to_device, ldio, stio, collect, give_up, poll};
 
 use crate::line::{Line, with_word, word_of};
 use crate::refusal::Refusal;
-use crate::slot::Slot;
+use crate::slot::{Slot, awaited_device};
 use crate::state::Processor;
 use message::kind::Kind;
 use message::message::Message;
@@ -19,11 +19,12 @@ impl Line {
     fn fits(self, kind: Kind) -> bool
         ensures { result ≡ fits self kind }
     {
-        match self {
-            Line::Invalid => kind.is(Kind::Gets) || kind.is(Kind::Getx),
-            Line::Shared(_) => kind.is(Kind::Upg),
-            Line::Exclusive(_) => kind.is(Kind::Wb),
-        }
+        matches!(
+            (self, kind),
+            (Line::Invalid, Kind::Gets | Kind::Getx)
+                | (Line::Shared(_), Kind::Upg)
+                | (Line::Exclusive(_), Kind::Wb)
+        )
     }
 }
 
@@ -43,11 +44,24 @@ impl Processor {
         }
     }
 
+    // A message about a word of a device, with the processor's clock and the operation's number.
+    fn to_device(self, kind: Kind, node: u32, device: u32, word: u32, words: Words) -> Message
+        requires { device < 2 }
+        ensures { result ≡ to_device kind self node device word words }
+    {
+        Message {
+            words,
+            clock: u64::from(self.clock.global),
+            sequence: self.sequence,
+            ..Message::plain(kind, node, 4 + device, word)
+        }
+    }
+
     // The word of every own LDio has come.
     fn fetched_all(self) -> Result<(), Refusal>
         ensures { result ≡ fetched_all self }
     {
-        match self.slots.awaited() {
+        match awaited_device(self.slots) {
             None => Ok(()),
             Some(device) => Err(Refusal::Awaits(device)),
         }
@@ -59,20 +73,17 @@ impl Processor {
         ensures told { IfOk result (λ x. is_some x.answer ≡ true) }
     {
         let block = word / 4;
-        let Some(words) = self.lines.line(block).held() else {
-            return Err(Refusal::NotHeld(block));
-        };
+        let held = self.lines.get(block).held();
+        let words = held.ok_or(Refusal::NotHeld(block))?;
         self.fetched_all()?;
         let value = word_of(words, word);
         let next = Processor {
             clock: self.clock.counted(),
             sequence: u64::from(self.sequence) + 1,
-            ..self.wide()
+            ..self.into()
         };
-        Ok(next.doing(
-            self.operation(node, Operation::Ld, word, value),
-            Some(value),
-        ))
+        let entry = self.operation(node, Operation::Ld, word, value);
+        Ok(Reaction::doing(next, entry, Some(value)))
     }
 
     /// An ST.
@@ -86,18 +97,18 @@ impl Processor {
         ensures quiet { IfOk result (λ x. x.answer ≡ None) }
     {
         let block = word / 4;
-        let Some(words) = self.lines.line(block).owned() else {
-            return Err(Refusal::NotHeld(block));
-        };
+        let owned = self.lines.get(block).owned();
+        let words = owned.ok_or(Refusal::NotHeld(block))?;
         self.fetched_all()?;
         let line = Line::Exclusive(with_word(words, word, value));
         let next = Processor {
             clock: self.clock.counted(),
             sequence: u64::from(self.sequence) + 1,
             lines: self.lines.with(block, line),
-            ..self.wide()
+            ..self.into()
         };
-        Ok(next.doing(self.operation(node, Operation::St, word, value), None))
+        let entry = self.operation(node, Operation::St, word, value);
+        Ok(Reaction::doing(next, entry, None))
     }
 
     /// Asks a block's home for a copy, for the right to store, or to take its words back.
@@ -110,17 +121,18 @@ impl Processor {
         ensures value { result ≡ request self node block kind }
         ensures quiet { IfOk result (λ x. x.answer ≡ None) }
     {
-        if block >= 16 || !self.lines.line(block).fits(kind) {
+        if block >= 16 || !self.lines.get(block).fits(kind) {
             return Err(Refusal::Unfit(block));
         }
-        if let Some(_) = self.requests.out(block) {
+        if self.requests.get(block).is_some() {
             return Err(Refusal::RequestOut(block));
         }
         let next = Processor {
             requests: self.requests.with(block, Some(kind)),
-            ..self.wide()
+            ..self.into()
         };
-        Ok(next.sending(Message::plain(kind, node, 16 + block, block)))
+        let message = Message::plain(kind, node, 16 + block, block);
+        Ok(Reaction::sending(next, message))
     }
 
     /// Asks a device for one of its words; the word comes into the slot.
@@ -133,22 +145,16 @@ impl Processor {
         ensures value { result ≡ ldio self node device word }
         ensures quiet { IfOk result (λ x. x.answer ≡ None) }
     {
-        if device >= 2 {
+        if device >= 2 || self.slots.get(device) != Slot::Free {
             return Err(Refusal::SlotTaken(device));
         }
-        let Slot::Free = self.slots.slot(device) else {
-            return Err(Refusal::SlotTaken(device));
-        };
         let next = Processor {
             sequence: u64::from(self.sequence) + 1,
             slots: self.slots.with(device, Slot::Awaited),
-            ..self.wide()
+            ..self.into()
         };
-        Ok(next.sending(Message {
-            clock: u64::from(self.clock.global),
-            sequence: self.sequence,
-            ..Message::plain(Kind::Rio, node, 4 + device, word)
-        }))
+        let message = self.to_device(Kind::Rio, node, device, word, Words::ZERO);
+        Ok(Reaction::sending(next, message))
     }
 
     /// Sends a device a value for one of its words.
@@ -167,14 +173,10 @@ impl Processor {
         }
         let next = Processor {
             sequence: u64::from(self.sequence) + 1,
-            ..self.wide()
+            ..self.into()
         };
-        Ok(next.sending(Message {
-            words: Words::one(value),
-            clock: u64::from(self.clock.global),
-            sequence: self.sequence,
-            ..Message::plain(Kind::Wio, node, 4 + device, word)
-        }))
+        let message = self.to_device(Kind::Wio, node, device, word, Words::one(value));
+        Ok(Reaction::sending(next, message))
     }
 
     /// Tells a word that came, and frees its slot.
@@ -182,14 +184,14 @@ impl Processor {
         ensures value { result ≡ collect self device }
         ensures told { IfOk result (λ x. is_some x.answer ≡ true) }
     {
-        let Slot::Came(word) = self.slots.slot(device) else {
+        let Slot::Came(word) = self.slots.get(device) else {
             return Err(Refusal::NotCollectable(device));
         };
         let next = Processor {
             slots: self.slots.with(device, Slot::Free),
-            ..self.wide()
+            ..self.into()
         };
-        Ok(next.telling(Some(word)))
+        Ok(Reaction::telling(next, Some(word)))
     }
 
     /// Lets a slot go: at once if its word came, else once it comes.
@@ -197,16 +199,16 @@ impl Processor {
         ensures value { result ≡ give_up self device }
         ensures quiet { IfOk result (λ x. x.answer ≡ None) }
     {
-        let left = match self.slots.slot(device) {
+        let left = match self.slots.get(device) {
             Slot::Awaited => Slot::Abandoned,
             Slot::Came(_) => Slot::Free,
             Slot::Free | Slot::Abandoned => return Err(Refusal::NotCollectable(device)),
         };
         let next = Processor {
             slots: self.slots.with(device, left),
-            ..self.wide()
+            ..self.into()
         };
-        Ok(next.quiet())
+        Ok(Reaction::quiet(next))
     }
 
     /// Tells the latest interrupt word that was not polled, or none.
@@ -215,8 +217,8 @@ impl Processor {
     {
         let next = Processor {
             register: None,
-            ..self.wide()
+            ..self.into()
         };
-        next.telling(self.register)
+        Reaction::telling(next, self.register)
     }
 }

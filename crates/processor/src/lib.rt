@@ -5,7 +5,6 @@
 pub mod calls;
 pub mod laws;
 pub mod line;
-mod reacting;
 pub mod receive;
 pub mod refusal;
 pub mod slot;

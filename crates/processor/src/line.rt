@@ -1,15 +1,26 @@
 //! Cache lines: a processor's copy of each block, if it has one.
 
 ghost use Rattle.std.specs.Prelude.{◌≡◌};
-ghost use Rattle.processor.specs.Lines.{line_at, with_line, held_words, owned_words, word_of, with_word};
+ghost use Rattle.processor.specs.Lines.{held_words, owned_words, word_of, with_word};
+ghost use Rattle.processor.specs.declared.line.Line.TheVariants.{Invalid};
 
+use message::table::{Blank, Table};
 use ordering::operation::Words;
 
-#[derive(Clone, Copy)]
+#[derive(Clone, Copy, Debug, PartialEq, Eq)]
 pub enum Line {
     Invalid,
     Shared(Words),
     Exclusive(Words),
+}
+
+/// By block; a line past the last block is invalid.
+pub type Lines = Table<Line, 16>;
+
+impl Blank for Line {
+    ghost BLANK = { Invalid };
+
+    const BLANK: Line = Line::Invalid;
 }
 
 impl Line {
@@ -31,32 +42,6 @@ impl Line {
             Line::Invalid | Line::Shared(_) => None,
             Line::Exclusive(words) => Some(words),
         }
-    }
-}
-
-#[derive(Clone, Copy)]
-pub struct Lines {
-    pub at: [Line; 16],
-}
-
-impl Lines {
-    pub fn line(self, block: u32) -> Line
-        ensures { result ≡ line_at self block }
-    {
-        if block >= 16 {
-            return Line::Invalid;
-        }
-        self.at[block as usize]
-    }
-
-    pub fn with(self, block: u32, line: Line) -> Lines
-        ensures { result ≡ with_line self block line }
-    {
-        let mut next = self;
-        if block < 16 {
-            next.at[block as usize] = line;
-        }
-        next
     }
 }
 

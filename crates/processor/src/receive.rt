@@ -3,7 +3,7 @@
 
 ghost use Rattle.std.specs.Prelude.{◌≡◌, IfSome, None};
 ghost use Rattle.ordering.specs.Words.{first_word};
-ghost use Rattle.processor.specs.Receive.{giving_way, invalidated, downgraded, taking_line, taking, shared, owned, granted, done, nacked, interrupt_entry, interrupted, fetched, fetched_from, receive};
+ghost use Rattle.processor.specs.Receive.{giving_way, invalidated, downgraded, taking_line, taking, filled, granted, done, nacked, interrupt_entry, interrupted, fetched, fetched_from, receive};
 
 use crate::line::Line;
 use crate::slot::Slot;
@@ -27,186 +27,130 @@ impl Processor {
     fn giving_way(
         self,
         node: u32,
-        home: u32,
-        block: u32,
+        message: Message<u32>,
         line: Line,
         exclusive: bool,
         words: Words,
     ) -> Reaction<Processor<u64>>
-        ensures { result ≡ giving_way self node home block line exclusive words }
+        ensures { result ≡ giving_way self node message.sender message.place line exclusive words }
     {
         let clock = self.clock.passed(self.clock.global);
         let next = Processor {
             clock,
-            lines: self.lines.with(block, line),
-            ..self.wide()
+            lines: self.lines.with(message.place, line),
+            ..self.into()
         };
-        next.sending(Message {
+        let acknowledgement = Message {
             words,
             clock: clock.global,
             exclusive,
-            ..Message::plain(Kind::Ack, node, home, block)
-        })
+            ..Message::plain(Kind::Ack, node, message.sender, message.place)
+        };
+        Reaction::sending(next, acknowledgement)
     }
 
     // INV.
-    fn invalidated(self, node: u32, home: u32, block: u32) -> Option<Reaction<Processor<u64>>>
-        ensures { result ≡ invalidated self node home block }
+    fn invalidated(self, node: u32, message: Message<u32>) -> Option<Reaction<Processor<u64>>>
+        ensures { result ≡ invalidated self node message.sender message.place }
     {
-        match self.lines.line(block) {
-            Line::Invalid => None,
-            Line::Shared(_) => Some(self.giving_way(
-                node,
-                home,
-                block,
-                Line::Invalid,
-                false,
-                Words::ZERO,
-            )),
-            Line::Exclusive(words) => Some(self.giving_way(
-                node,
-                home,
-                block,
-                Line::Invalid,
-                true,
-                words,
-            )),
-        }
+        let (exclusive, words) = match self.lines.get(message.place) {
+            Line::Invalid => return None,
+            Line::Shared(_) => (false, Words::ZERO),
+            Line::Exclusive(words) => (true, words),
+        };
+        Some(self.giving_way(node, message, Line::Invalid, exclusive, words))
     }
 
     // DOWN.
-    fn downgraded(self, node: u32, home: u32, block: u32) -> Option<Reaction<Processor<u64>>>
-        ensures { result ≡ downgraded self node home block }
+    fn downgraded(self, node: u32, message: Message<u32>) -> Option<Reaction<Processor<u64>>>
+        ensures { result ≡ downgraded self node message.sender message.place }
     {
-        let Line::Exclusive(words) = self.lines.line(block) else {
-            return None;
-        };
-        Some(self.giving_way(node, home, block, Line::Shared(words), true, words))
+        let words = self.lines.get(message.place).owned()?;
+        Some(self.giving_way(node, message, Line::Shared(words), true, words))
     }
 
     // The request is answered.
-    fn taking(self, node: u32, home: u32, block: u32, clock: u32) -> Reaction<Processor<u64>>
-        ensures { result ≡ taking self node home block clock }
+    fn taking(self, node: u32, message: Message<u32>) -> Reaction<Processor<u64>>
+        ensures { result ≡ taking self node message.sender message.place message.clock }
     {
-        let clock = self.clock.passed(clock);
         let next = Processor {
-            clock,
-            requests: self.requests.with(block, None),
-            ..self.wide()
+            clock: self.clock.passed(message.clock),
+            requests: self.requests.with(message.place, None),
+            ..self.into()
         };
-        next.sending(Message::plain(Kind::Taken, node, home, block))
+        let taken = Message::plain(Kind::Taken, node, message.sender, message.place);
+        Reaction::sending(next, taken)
     }
 
-    fn taking_line(
-        self,
-        node: u32,
-        home: u32,
-        block: u32,
-        clock: u32,
-        line: Line,
-    ) -> Reaction<Processor<u64>>
-        ensures { result ≡ taking_line self node home block clock line }
+    fn taking_line(self, node: u32, message: Message<u32>, line: Line) -> Reaction<Processor<u64>>
+        ensures { result ≡ taking_line self node message.sender message.place message.clock line }
     {
         let next = Processor {
-            lines: self.lines.with(block, line),
+            lines: self.lines.with(message.place, line),
             ..self
         };
-        next.taking(node, home, block, clock)
+        next.taking(node, message)
     }
 
-    // S-DATA.
-    fn shared(
+    // S-DATA and X-DATA, and the request that each answers.
+    fn filled(
         self,
         node: u32,
-        home: u32,
-        block: u32,
-        words: Words,
-        clock: u32,
+        message: Message<u32>,
+        request: Kind,
+        line: Line,
     ) -> Option<Reaction<Processor<u64>>>
-        ensures { result ≡ shared self node home block words clock }
+        ensures { result ≡ filled self node message.sender message.place message.clock request line }
     {
-        if !self.requests.is_out(block, Kind::Gets) {
+        if !self.requests.is_out(message.place, request) {
             return None;
         }
-        Some(self.taking_line(node, home, block, clock, Line::Shared(words)))
-    }
-
-    // X-DATA.
-    fn owned(
-        self,
-        node: u32,
-        home: u32,
-        block: u32,
-        words: Words,
-        clock: u32,
-    ) -> Option<Reaction<Processor<u64>>>
-        ensures { result ≡ owned self node home block words clock }
-    {
-        if !self.requests.is_out(block, Kind::Getx) {
-            return None;
-        }
-        Some(self.taking_line(node, home, block, clock, Line::Exclusive(words)))
+        Some(self.taking_line(node, message, line))
     }
 
     // GRANT.
-    fn granted(
-        self,
-        node: u32,
-        home: u32,
-        block: u32,
-        clock: u32,
-    ) -> Option<Reaction<Processor<u64>>>
-        ensures { result ≡ granted self node home block clock }
+    fn granted(self, node: u32, message: Message<u32>) -> Option<Reaction<Processor<u64>>>
+        ensures { result ≡ granted self node message.sender message.place message.clock }
     {
-        if !self.requests.is_out(block, Kind::Upg) {
-            return None;
-        }
-        let Line::Shared(words) = self.lines.line(block) else {
+        let Line::Shared(words) = self.lines.get(message.place) else {
             return None;
         };
-        Some(self.taking_line(node, home, block, clock, Line::Exclusive(words)))
+        self.filled(node, message, Kind::Upg, Line::Exclusive(words))
     }
 
     // DONE.
-    fn done(self, node: u32, home: u32, block: u32, clock: u32) -> Option<Reaction<Processor<u64>>>
-        ensures { result ≡ done self node home block clock }
+    fn done(self, node: u32, message: Message<u32>) -> Option<Reaction<Processor<u64>>>
+        ensures { result ≡ done self node message.sender message.place message.clock }
     {
-        if !self.requests.is_out(block, Kind::Wb) {
+        if !self.requests.is_out(message.place, Kind::Wb) {
             return None;
         }
-        Some(self.taking(node, home, block, clock))
+        Some(self.taking(node, message))
     }
 
     // NACK.
-    fn nacked(self, block: u32, kind: Option<Kind>) -> Option<Reaction<Processor<u64>>>
-        ensures { result ≡ nacked self block kind }
+    fn nacked(self, message: Message<u32>) -> Option<Reaction<Processor<u64>>>
+        ensures { result ≡ nacked self message.place message.refused }
     {
-        let kind = kind?;
-        if !self.requests.is_out(block, kind) {
+        if !self.requests.is_out(message.place, message.refused?) {
             return None;
         }
         let next = Processor {
-            requests: self.requests.with(block, None),
-            ..self.wide()
+            requests: self.requests.with(message.place, None),
+            ..self.into()
         };
-        Some(next.quiet())
+        Some(Reaction::quiet(next))
     }
 
     // INT, an operation of the party that sent it.
-    fn interrupted(
-        self,
-        node: u32,
-        party: u32,
-        sequence: u32,
-        word: u32,
-        clock: u32,
-    ) -> Reaction<Processor<u64>>
-        ensures { result ≡ interrupted self node party sequence word clock }
+    fn interrupted(self, node: u32, message: Message<u32>) -> Reaction<Processor<u64>>
+        ensures { result ≡ interrupted self node message.sender message.sequence (first_word message.words) message.clock }
     {
-        let clock = self.clock.passed_and_counted(clock);
+        let clock = self.clock.passed_and_counted(message.clock);
+        let word = first_word(message.words);
         let entry = Entry {
-            party,
-            sequence,
+            party: message.sender,
+            sequence: message.sequence,
             operation: Operation::Int,
             space: 3,
             place: node,
@@ -216,16 +160,16 @@ impl Processor {
         let next = Processor {
             clock,
             register: Some(word),
-            ..self.wide()
+            ..self.into()
         };
-        next.doing(entry, None)
+        Reaction::doing(next, entry, None)
     }
 
     // VALUE.
     fn fetched(self, device: u32, word: u32, clock: u32) -> Option<Reaction<Processor<u64>>>
         ensures { result ≡ fetched self device word clock }
     {
-        let slot = match self.slots.slot(device) {
+        let slot = match self.slots.get(device) {
             Slot::Awaited => Slot::Came(word),
             Slot::Abandoned => Slot::Free,
             Slot::Free | Slot::Came(_) => return None,
@@ -233,18 +177,18 @@ impl Processor {
         let next = Processor {
             clock: self.clock.passed(clock),
             slots: self.slots.with(device, slot),
-            ..self.wide()
+            ..self.into()
         };
-        Some(next.quiet())
+        Some(Reaction::quiet(next))
     }
 
-    fn fetched_from(self, sender: u32, word: u32, clock: u32) -> Option<Reaction<Processor<u64>>>
-        ensures { result ≡ fetched_from self sender word clock }
+    fn fetched_from(self, message: Message<u32>) -> Option<Reaction<Processor<u64>>>
+        ensures { result ≡ fetched_from self message.sender (first_word message.words) message.clock }
     {
-        let Node::Device(device) = Node::numbered(sender) else {
+        let Node::Device(device) = Node::numbered(message.sender)? else {
             return None;
         };
-        self.fetched(device, word, clock)
+        self.fetched(device, first_word(message.words), message.clock)
     }
 
     /// The reaction to a message, or none where there is no rule.
@@ -252,25 +196,17 @@ impl Processor {
         ensures value { result ≡ receive self node message }
         ensures quiet { IfSome result (λ x. x.answer ≡ None) }
     {
-        let home = message.sender;
-        let block = message.place;
-        let clock = message.clock;
+        let words = message.words;
         match message.kind {
-            Kind::Int => Some(self.interrupted(
-                node,
-                message.sender,
-                message.sequence,
-                first_word(message.words),
-                clock,
-            )),
-            Kind::Inv => self.invalidated(node, home, block),
-            Kind::Down => self.downgraded(node, home, block),
-            Kind::SData => self.shared(node, home, block, message.words, clock),
-            Kind::XData => self.owned(node, home, block, message.words, clock),
-            Kind::Grant => self.granted(node, home, block, clock),
-            Kind::Done => self.done(node, home, block, clock),
-            Kind::Value => self.fetched_from(message.sender, first_word(message.words), clock),
-            Kind::Nack => self.nacked(block, message.refused),
+            Kind::Int => Some(self.interrupted(node, message)),
+            Kind::Inv => self.invalidated(node, message),
+            Kind::Down => self.downgraded(node, message),
+            Kind::SData => self.filled(node, message, Kind::Gets, Line::Shared(words)),
+            Kind::XData => self.filled(node, message, Kind::Getx, Line::Exclusive(words)),
+            Kind::Grant => self.granted(node, message),
+            Kind::Done => self.done(node, message),
+            Kind::Value => self.fetched_from(message),
+            Kind::Nack => self.nacked(message),
             _ => None,
         }
     }

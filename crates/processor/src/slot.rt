@@ -1,9 +1,12 @@
 //! Slots: one for each device, for the word of an LDio that is under way or has come.
 
 ghost use Rattle.std.specs.Prelude.{◌≡◌};
-ghost use Rattle.processor.specs.Slots.{slot_at, with_slot, is_awaited, awaited_device};
+ghost use Rattle.processor.specs.Slots.{is_awaited, awaited_device};
+ghost use Rattle.processor.specs.declared.slot.Slot.TheVariants.{Free};
 
-#[derive(Clone, Copy)]
+use message::table::{Blank, Table};
+
+#[derive(Clone, Copy, Debug, PartialEq, Eq)]
 pub enum Slot {
     Free,
     /// The word is awaited, and somebody holds the slot.
@@ -11,6 +14,15 @@ pub enum Slot {
     /// The word is awaited, and nobody holds the slot.
     Abandoned,
     Came(u32),
+}
+
+/// By device; what is no device has a free slot.
+pub type Slots = Table<Slot, 2>;
+
+impl Blank for Slot {
+    ghost BLANK = { Free };
+
+    const BLANK: Slot = Slot::Free;
 }
 
 impl Slot {
@@ -22,41 +34,11 @@ impl Slot {
     }
 }
 
-#[derive(Clone, Copy)]
-pub struct Slots {
-    pub at: [Slot; 2],
-}
-
-impl Slots {
-    pub fn slot(self, device: u32) -> Slot
-        ensures { result ≡ slot_at self device }
-    {
-        if device >= 2 {
-            return Slot::Free;
-        }
-        self.at[device as usize]
-    }
-
-    pub fn with(self, device: u32, slot: Slot) -> Slots
-        ensures { result ≡ with_slot self device slot }
-    {
-        let mut next = self;
-        if device < 2 {
-            next.at[device as usize] = slot;
-        }
-        next
-    }
-
-    /// The lowest device from which a word has yet to come.
-    pub fn awaited(self) -> Option<u32>
-        ensures { result ≡ awaited_device self }
-    {
-        if self.slot(0).is_awaited() {
-            return Some(0);
-        }
-        if self.slot(1).is_awaited() {
-            return Some(1);
-        }
-        None
-    }
+/// The lowest device from which a word has yet to come.
+pub fn awaited_device(slots: Slots) -> Option<u32>
+    ensures { result ≡ awaited_device slots }
+{
+    [0, 1]
+        .into_iter()
+        .find(|device| slots.get(*device).is_awaited())
 }

@@ -4,10 +4,11 @@
 ghost use Rattle.std.specs.Prelude.{◌≡◌};
 ghost use Rattle.processor.specs.States.{made, settled_processor};
 
-use crate::line::{Line, Lines};
-use crate::slot::{Slot, Slots};
+use crate::line::Lines;
+use crate::slot::Slots;
 use message::requests::Requests;
-use ordering::clock::{Clock, END};
+use message::table::Table;
+use ordering::clock::{Clock, Settle, settled_next};
 
 #[derive(Clone, Copy)]
 pub struct Processor<N = u32> {
@@ -32,47 +33,39 @@ impl Processor {
                 local: 0,
             },
             sequence: 0,
-            lines: Lines {
-                at: [Line::Invalid; 16],
-            },
-            requests: Requests { at: [None; 16] },
-            slots: Slots {
-                at: [Slot::Free; 2],
-            },
+            lines: Table::blank(),
+            requests: Table::blank(),
+            slots: Table::blank(),
             register: None,
-        }
-    }
-
-    /// The same processor in the wider numbers.
-    pub fn wide(self) -> Processor<u64>
-        ensures { result ≡ self }
-    {
-        Processor {
-            clock: self.clock.wide(),
-            sequence: u64::from(self.sequence),
-            lines: self.lines,
-            requests: self.requests,
-            slots: self.slots,
-            register: self.register,
         }
     }
 }
 
-impl Processor<u64> {
-    /// The processor at rest again, or none where a number passed its end.
-    pub fn settled(self) -> Option<Processor>
-        ensures { result ≡ settled_processor self }
-    {
-        let Some(clock) = self.clock.settled() else {
-            return None;
-        };
-        // The operation of the last number may be done; the next then has none.
-        if self.sequence > u64::from(END) + 1 {
-            return None;
+/// The same processor in the wider numbers.
+impl From<Processor> for Processor<u64> {
+    ghost from_gives = { λ processor wide. wide ≡ processor };
+
+    fn from(processor: Processor) -> Processor<u64> {
+        Processor {
+            clock: processor.clock.into(),
+            sequence: u64::from(processor.sequence),
+            lines: processor.lines,
+            requests: processor.requests,
+            slots: processor.slots,
+            register: processor.register,
         }
+    }
+}
+
+impl Settle for Processor<u64> {
+    type Rest = Processor;
+
+    ghost settled = { settled_processor };
+
+    fn settled(self) -> Option<Processor> {
         Some(Processor {
-            clock,
-            sequence: self.sequence as u32,
+            clock: self.clock.settled()?,
+            sequence: settled_next(self.sequence)?,
             lines: self.lines,
             requests: self.requests,
             slots: self.slots,

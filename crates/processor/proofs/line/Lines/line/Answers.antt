@@ -1,8 +1,0 @@
-use Rattle.std.proofs.Common.{◌≡◌, length, sym, arith, rules}
-use Rattle.std.proofs.lemmas.List.{get_or_past}
-use Rattle.processor.proofs.line.Lines.line.Goals as goal
-
-pub returns-then-block-ge16 : goal.returns-then-block-ge16
-returns-then-block-ge16 c =
-    let long : length c.args.self.at ≡ 16 = search rules in
-    sym (get_or_past c.args.self.at c.args.block _ (omega arith))
