@@ -1,5 +1,5 @@
 -- Block requests: one for a block, sent again when refused, and waited for by an interrupt.
-use Rattle.std.proofs.Common.{◌≡◌, ℕ, true, false, ◌⊎◌, List, get_or, set, Some, None, Option, sym, refl, ap, ◌∙◌, subst, ⊎_elim, arith}
+use Rattle.std.proofs.Common.{◌≡◌, ℕ, true, false, ◌⊎◌, List, get_or, set, is_some, Some, None, Option, sym, refl, ap, ◌∙◌, subst, ⊎_elim, arith}
 use Rattle.std.proofs.lemmas.List.{places, get_or-set_same}
 use Rattle.std.proofs.lemmas.Bool.Decides.{nat_tests}
 use Rattle.device.specs.Meaning.{Meaning}
@@ -14,7 +14,7 @@ use Rattle.message.specs.declared.reaction.Outbox.{Outbox}
 use Rattle.message.specs.declared.reaction.Reaction.{Reaction}
 use Rattle.bridge.proofs.Outs.{none_out}
 use Rattle.bridge.proofs.Tables.{put_read}
-use Rattle.bridge.specs.Acts.{some_out}
+use Rattle.std.specs.List.{list_any}
 use Rattle.bridge.specs.Inputs.{Act, Receive, reaction}
 use Rattle.bridge.specs.Laws.{asks_for_block, RefusedRequestsGoOutAgain, RequestsStayForBlocks, RequestsAreForBlocks, InterruptsWait, WishesAreJudged}
 use Rattle.bridge.specs.Reactions.{receive}
@@ -93,7 +93,7 @@ module _ {S : Type 0} (m : Meaning S) where
 
   pub interrupts_wait : InterruptsWait m
   interrupts_wait b d (Act ps) r h o y e k j =
-      let free = λ (f : some_out b.requests.at ≡ false). none_out b.requests.at f j in
+      let free = λ (f : list_any is_some b.requests.at ≡ false). none_out b.requests.at f j in
       grind (arith, nat_tests, free)
   interrupts_wait b d (Receive x) r h o y e k j = grind (arith, nat_tests, o x.place)
 
@@ -103,6 +103,6 @@ module _ {S : Type 0} (m : Meaning S) where
     foreign = λ b d ps h e k. grind (arith, nat_tests);
     own = λ b d ps h f e k l. grind (arith, nat_tests);
     waits = λ b d ps e.
-        let free = λ (f : some_out b.requests.at ≡ false). none_out b.requests.at f (wished_place (m.wish b.device)) in
+        let free = λ (f : list_any is_some b.requests.at ≡ false). none_out b.requests.at f (wished_place (m.wish b.device)) in
         grind (arith, nat_tests, free);
   }

@@ -1,5 +1,6 @@
 -- What a bridge decides to do about its device's wish, or why it may not. d is the device's number, k a block.
-use Rattle.std.specs.Prelude.{ℕ, ◌+◌, Bool, true, false, cond, List, [], ◌∷◌, length, Some, None, Ok, Err, Option, Result, nat_lt}
+use Rattle.std.specs.Prelude.{ℕ, ◌+◌, Bool, false, cond, length, is_some, Some, None, Ok, Err, Option, Result, nat_lt}
+use Rattle.std.specs.List.{list_any}
 use Rattle.ordering.specs.Clocks.{counted}
 use Rattle.ordering.specs.Words.{one_word, no_words, first_word}
 use Rattle.ordering.specs.declared.clock.Clock.{Clock}
@@ -13,7 +14,7 @@ use Rattle.message.specs.Requests.{out}
 use Rattle.message.specs.declared.kind.Kind.{Kind}
 use Rattle.message.specs.declared.kind.Kind.TheVariants as kind
 use Rattle.message.specs.declared.message.Message.{Message}
-use Rattle.message.specs.declared.requests.Requests.{Requests}
+use Rattle.message.specs.Requests.{Requests}
 use Rattle.bridge.specs.declared.fault.DeviceFault.{DeviceFault}
 use Rattle.bridge.specs.declared.fault.DeviceFault.TheVariants.{NoWish, BadWish, MustWait}
 use Rattle.bridge.specs.declared.plan.Deed.{Deed}
@@ -29,20 +30,12 @@ abbrev pub word_count : {S : Type 0} → Meaning S → Bridge S ℕ → ℕ
 word_count m b = length (m.words b.device)
 
 -- Whether a request is out for any block.
-abbrev pub some_out : List (Option Kind) → Bool
-some_out [] = false
-some_out (None ∷ rs) = some_out rs
-some_out (Some k ∷ rs) = true
-
 abbrev pub any_out : Requests → Bool
-any_out r = some_out r.at
+any_out r = list_any is_some r.at
 
 -- Every operation of the device takes its next number.
-abbrev pub next_number : {S : Type 0} → Bridge S ℕ → ℕ
-next_number b = b.sequence + 1
-
 abbrev pub numbering : {S : Type 0} → Bridge S ℕ → Clock ℕ → Deed → Plan ℕ
-numbering b c a = record { clock = c; sequence = next_number b; deed = a }
+numbering b c a = record { clock = c; sequence = b.sequence + 1; deed = a }
 
 -- An own LDio or STio is done at once, at a word that the device has: it is counted, and passes nothing.
 abbrev pub own_access : {S : Type 0} → ℕ → Bridge S ℕ → ℕ → WordAccess

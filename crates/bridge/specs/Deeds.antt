@@ -16,7 +16,6 @@ use Rattle.message.specs.declared.kind.Kind.TheVariants as kind
 use Rattle.message.specs.declared.message.Message.{Message}
 use Rattle.message.specs.declared.reaction.Reaction.{Reaction}
 use Rattle.bridge.specs.States.{at_numbers, at_request, at_device}
-use Rattle.bridge.specs.declared.perform.Outcome.{Outcome}
 use Rattle.bridge.specs.declared.plan.Deed.{Deed}
 use Rattle.bridge.specs.declared.plan.Deed.TheVariants.{Load, Store, Interrupt, Request, Read, Write, Land, Finish, Resend}
 use Rattle.bridge.specs.declared.plan.Plan.{Plan}
@@ -107,11 +106,8 @@ abbrev pub performed : {S : Type 0} → Meaning S → ℕ → Bridge S ℕ → P
 performed m d b p = deed_done p.deed m d (at_numbers p.clock p.sequence b)
 
 -- What leaves the node.
+abbrev pub Outcome : Type 0
+Outcome = Reaction (Unit {0})
+
 abbrev pub outcome_of : {S : Type 0} → Reaction (Bridge S ℕ) → Outcome
-outcome_of r = record { sent = r.sent; entry = r.entry }
-
-abbrev pub sends_only : Message ℕ → Outcome
-sends_only x = record { sent = single x; entry = None }
-
-abbrev pub does_only : Entry → Outcome
-does_only e = record { sent = silent; entry = Some e }
+outcome_of r = record { next = tt; sent = r.sent; entry = r.entry; answer = None }

@@ -2,42 +2,62 @@
 //! number, so that the node's can always be had from it.
 
 ghost use Rattle.std.specs.Prelude.{◌≡◌};
-ghost use Rattle.bridge.specs.Acts.{any_out, next_number, own_access, own, interrupt, request, act_plan};
+ghost use Rattle.bridge.specs.Acts.{any_out, numbering, wish_message, own_access, own, interrupt, request, act_plan};
 ghost use Rattle.bridge.specs.States.{view};
 
 use crate::fault::DeviceFault;
 use crate::plan::{Deed, Plan, WordAccess};
-use crate::state::Bridge;
+use crate::state::{Bridge, device_node};
 use device::meaning::Device;
 use message::kind::Kind;
 use message::message::Message;
 use message::requests::Requests;
+use ordering::clock::Clock;
 use ordering::operation::{Operation, Words};
 
 // Whether a request is out for any block.
 fn any_out(requests: Requests) -> bool
     ensures { result ≡ any_out requests }
 {
-    for request in &requests.at {
-        if request.is_some() {
-            return true;
-        }
-    }
-    false
+    requests.at.iter().any(|request| request.is_some())
 }
 
 impl<D: Device> Bridge<D> {
-    fn next_number(&self) -> u64
-        ensures { result ≡ next_number (view D.Device.state self.now) }
+    // Every operation of the device takes its next number.
+    fn numbering(&self, clock: Clock<u64>, deed: Deed) -> Plan<u64>
+        ensures { result ≡ numbering (view D.Device.state self.now) clock deed }
     {
-        u64::from(self.sequence) + 1
+        Plan {
+            clock,
+            sequence: u64::from(self.sequence) + 1,
+            deed,
+        }
+    }
+
+    // What is done elsewhere goes out with the clock as it stands and the operation's number.
+    fn wish_message(
+        &self,
+        kind: Kind,
+        number: u8,
+        receiver: u32,
+        place: u32,
+        words: Words,
+    ) -> Message
+        ensures { result ≡ wish_message kind number (view D.Device.state self.now) receiver place words }
+    {
+        Message {
+            words,
+            clock: u64::from(self.clock.global),
+            sequence: self.sequence,
+            ..Message::plain(kind, device_node(number), receiver, place)
+        }
     }
 
     fn own_access(&self, number: u8, place: u32) -> WordAccess
         ensures { result ≡ own_access number (view D.Device.state self.now) place }
     {
         WordAccess {
-            party: 4 + u32::from(number),
+            party: device_node(number),
             sequence: self.sequence,
             place,
         }
@@ -50,11 +70,7 @@ impl<D: Device> Bridge<D> {
         if place >= self.device.count() {
             return Err(DeviceFault::BadWish(u32::from(number)));
         }
-        Ok(Plan {
-            clock: self.clock.counted(),
-            sequence: self.next_number(),
-            deed,
-        })
+        Ok(self.numbering(self.clock.counted(), deed))
     }
 
     // An interrupt says that what was asked for is there, so it waits for every block.
@@ -73,17 +89,9 @@ impl<D: Device> Bridge<D> {
         if any_out(self.requests) {
             return Err(DeviceFault::MustWait(u32::from(number)));
         }
-        let message = Message {
-            words: Words::one(word),
-            clock: u64::from(self.clock.global),
-            sequence: self.sequence,
-            ..Message::plain(Kind::Int, 4 + u32::from(number), processor, processor)
-        };
-        Ok(Plan {
-            clock: self.clock.wide(),
-            sequence: self.next_number(),
-            deed: Deed::Interrupt(message),
-        })
+        let words = Words::one(word);
+        let message = self.wish_message(Kind::Int, number, processor, processor, words);
+        Ok(self.numbering(self.clock.into(), Deed::Interrupt(message)))
     }
 
     fn request(
@@ -98,33 +106,23 @@ impl<D: Device> Bridge<D> {
         if block >= 16 {
             return Err(DeviceFault::BadWish(u32::from(number)));
         }
-        if let Some(_) = self.requests.out(block) {
+        if self.requests.get(block).is_some() {
             return Err(DeviceFault::MustWait(u32::from(number)));
         }
-        let message = Message {
-            words,
-            clock: u64::from(self.clock.global),
-            sequence: self.sequence,
-            ..Message::plain(kind, 4 + u32::from(number), 16 + block, block)
-        };
-        Ok(Plan {
-            clock: self.clock.wide(),
-            sequence: self.next_number(),
-            deed: Deed::Request(message),
-        })
+        let message = self.wish_message(kind, number, 16 + block, block, words);
+        Ok(self.numbering(self.clock.into(), Deed::Request(message)))
     }
 
     /// What it will do about the device's wish, or why it may not.
     pub fn act(&self, number: u8, processors: u32) -> Result<Plan<u64>, DeviceFault>
         ensures { result ≡ act_plan D.Device.meaning number processors (view D.Device.state self.now) }
     {
-        let Some(wish) = self.device.wish() else {
-            return Err(DeviceFault::NoWish(u32::from(number)));
-        };
+        let device = u32::from(number);
+        let wish = self.device.wish().ok_or(DeviceFault::NoWish(device))?;
         let word = wish.words.at[0];
         let access = self.own_access(number, wish.place);
         match wish.operation {
-            Operation::Ld | Operation::St => Err(DeviceFault::BadWish(u32::from(number))),
+            Operation::Ld | Operation::St => Err(DeviceFault::BadWish(device)),
             Operation::LdIo => self.own(number, wish.place, Deed::Load(access)),
             Operation::StIo => self.own(number, wish.place, Deed::Store(access, word)),
             Operation::Int => self.interrupt(number, processors, wish.processor, word),

@@ -2,46 +2,22 @@
 
 ghost use Rattle.std.specs.Prelude.{◌≡◌, slice_index};
 ghost use Rattle.device.specs.Meaning.{read_exit};
-ghost use Rattle.bridge.specs.Deeds.{access_entry, sends_only, does_only, outcome_of, loaded, stored, accepted, answered, written, ended, performed};
+ghost use Rattle.bridge.specs.Deeds.{access_entry, outcome_of, loaded, stored, accepted, answered, written, ended, performed};
 ghost use Rattle.bridge.specs.States.{view};
 
 use crate::plan::{Deed, Plan, WordAccess};
-use crate::state::Bridge;
+use crate::state::{Bridge, device_node};
 use device::meaning::Device;
 use message::kind::Kind;
 use message::message::Message;
-use message::reaction::Outbox;
+use message::reaction::Reaction;
 use ordering::clock::Clock;
 use ordering::operation::{Operation, Words};
 use ordering::stamp::Stamp;
 use trail::entry::Entry;
 
 /// What leaves the node: messages, and the operation that it did.
-#[derive(Clone, Copy)]
-pub struct Outcome {
-    pub sent: Outbox,
-    pub entry: Option<Entry>,
-}
-
-impl Outcome {
-    fn sending(message: Message) -> Outcome
-        ensures { result ≡ sends_only message }
-    {
-        Outcome {
-            sent: Outbox::single(message),
-            entry: None,
-        }
-    }
-
-    fn doing(entry: Entry) -> Outcome
-        ensures { result ≡ does_only entry }
-    {
-        Outcome {
-            sent: Outbox::silent(),
-            entry: Some(entry),
-        }
-    }
-}
+pub type Outcome = Reaction<()>;
 
 fn access_entry(
     number: u8,
@@ -59,7 +35,7 @@ fn access_entry(
         space: 1 + u32::from(number),
         place: access.place,
         values: Words::one(word),
-        stamp: Stamp::of(clock.wide(), 4 + u32::from(number)),
+        stamp: Stamp::of(clock.into(), device_node(number)),
     }
 }
 
@@ -68,10 +44,7 @@ fn read_word<D: Device>(device: &mut D, place: u32) -> u32
     ensures exit { D.Device.state device.new ≡ read_exit D.Device.meaning (D.Device.state device.old) place }
     ensures word { result ≡ slice_index (D.Device.meaning.words (D.Device.state device.old)) place }
 {
-    match device.read(place) {
-        Ok(word) => word,
-        Err(_) => 0,
-    }
+    device.read(place).unwrap_or(0)
 }
 
 impl<D: Device> Bridge<D> {
@@ -83,7 +56,7 @@ impl<D: Device> Bridge<D> {
         let word = read_word(&mut self.device, access.place);
         self.device.accepted(word);
         let entry = access_entry(number, self.clock, access, Operation::LdIo, word);
-        Outcome::doing(entry)
+        Reaction::doing((), entry, None)
     }
 
     // Its own STio.
@@ -94,7 +67,7 @@ impl<D: Device> Bridge<D> {
         let _ = self.device.write(access.place, value);
         self.device.accepted(0);
         let entry = access_entry(number, self.clock, access, Operation::StIo, value);
-        Outcome::doing(entry)
+        Reaction::doing((), entry, None)
     }
 
     // Its wish went out as a message.
@@ -103,7 +76,7 @@ impl<D: Device> Bridge<D> {
         ensures outcome { result ≡ outcome_of (accepted D.Device.meaning (view D.Device.state self.old) message) }
     {
         self.device.accepted(0);
-        Outcome::sending(message)
+        Reaction::sending((), message)
     }
 
     // A processor's LDio: VALUE carries the word.
@@ -115,17 +88,12 @@ impl<D: Device> Bridge<D> {
         let value = Message {
             words: Words::one(word),
             clock: u64::from(self.clock.global),
-            ..Message::plain(
-                Kind::Value,
-                4 + u32::from(number),
-                access.party,
-                access.place,
-            )
+            ..Message::plain(Kind::Value, device_node(number), access.party, access.place)
         };
         let entry = access_entry(number, self.clock, access, Operation::LdIo, word);
-        Outcome {
-            sent: Outbox::single(value),
+        Reaction {
             entry: Some(entry),
+            ..Reaction::sending((), value)
         }
     }
 
@@ -136,7 +104,7 @@ impl<D: Device> Bridge<D> {
     {
         let _ = self.device.write(access.place, word);
         let entry = access_entry(number, self.clock, access, Operation::StIo, word);
-        Outcome::doing(entry)
+        Reaction::doing((), entry, None)
     }
 
     // The request for a block is answered.
@@ -145,8 +113,8 @@ impl<D: Device> Bridge<D> {
         ensures outcome { result ≡ outcome_of (ended number (view D.Device.state self.old) home block) }
     {
         self.requests = self.requests.with(block, None);
-        let taken = Message::plain(Kind::Taken, 4 + u32::from(number), home, block);
-        Outcome::sending(taken)
+        let taken = Message::plain(Kind::Taken, device_node(number), home, block);
+        Reaction::sending((), taken)
     }
 
     /// Does what was planned.
@@ -171,7 +139,7 @@ impl<D: Device> Bridge<D> {
                 self.end(number, home, block)
             }
             Deed::Finish { home, block } => self.end(number, home, block),
-            Deed::Resend(message) => Outcome::sending(message),
+            Deed::Resend(message) => Reaction::sending((), message),
         }
     }
 }

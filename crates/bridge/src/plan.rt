@@ -4,7 +4,7 @@ ghost use Rattle.std.specs.Prelude.{◌≡◌};
 ghost use Rattle.bridge.specs.Plans.{sends, enters, settled_plan};
 
 use message::message::Message;
-use ordering::clock::{Clock, END};
+use ordering::clock::{Clock, Settle, settled_next};
 use ordering::operation::Words;
 
 /// An operation at one of the device's words: who asked for it, its number there, and the word.
@@ -67,21 +67,15 @@ pub struct Plan<N = u32> {
     pub deed: Deed,
 }
 
-impl Plan<u64> {
-    /// The plan with its numbers at rest, or none where one passed its end.
-    pub fn settled(self) -> Option<Plan>
-        ensures { result ≡ settled_plan self }
-    {
-        let Some(clock) = self.clock.settled() else {
-            return None;
-        };
-        // The operation of the last number may be done; the next then has none.
-        if self.sequence > u64::from(END) + 1 {
-            return None;
-        }
+impl Settle for Plan<u64> {
+    type Rest = Plan;
+
+    ghost settled = { settled_plan };
+
+    fn settled(self) -> Option<Plan> {
         Some(Plan {
-            clock,
-            sequence: self.sequence as u32,
+            clock: self.clock.settled()?,
+            sequence: settled_next(self.sequence)?,
             deed: self.deed,
         })
     }

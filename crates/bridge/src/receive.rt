@@ -6,7 +6,7 @@ ghost use Rattle.bridge.specs.Receipts.{answering, asked_access, asked, replied,
 ghost use Rattle.bridge.specs.States.{view};
 
 use crate::plan::{Deed, Plan, WordAccess};
-use crate::state::Bridge;
+use crate::state::{Bridge, device_node};
 use device::meaning::Device;
 use message::kind::Kind;
 use message::message::Message;
@@ -68,9 +68,9 @@ impl<D: Device> Bridge<D> {
             words: message.words,
             clock: u64::from(self.clock.global),
             sequence: message.sequence,
-            ..Message::plain(kind, 4 + u32::from(number), message.sender, message.place)
+            ..Message::plain(kind, device_node(number), message.sender, message.place)
         };
-        Some(self.answering(self.clock.wide(), Deed::Resend(request)))
+        Some(self.answering(self.clock.into(), Deed::Resend(request)))
     }
 
     /// What it will do about the message, or none where there is no rule.

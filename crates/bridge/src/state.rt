@@ -2,9 +2,17 @@
 
 ghost use Rattle.std.specs.Prelude.{◌≡◌};
 ghost use Rattle.bridge.specs.States.{made};
+ghost use Rattle.message.specs.Nodes.{device_node};
 
 use message::requests::Requests;
+use message::table::Table;
 use ordering::clock::Clock;
+
+pub(crate) fn device_node(number: u8) -> u32
+    ensures { result ≡ device_node number }
+{
+    4 + u32::from(number)
+}
 
 #[derive(Drop)]
 pub struct Bridge<D, N = u32> {
@@ -24,11 +32,10 @@ impl<D> Bridge<D> {
             global: clock,
             local: 0,
         };
-        let requests = Requests { at: [None; 16] };
         Bridge {
             clock,
             sequence: 0,
-            requests,
+            requests: Table::blank(),
             device,
         }
     }

@@ -5,6 +5,7 @@ use crate::state::Bridge;
 use device::plate_setter::PlateSetter;
 use message::kind::Kind;
 use message::message::Message;
+use ordering::clock::Settle;
 use ordering::operation::Words;
 use std::test::Fail;
 
@@ -23,10 +24,7 @@ fn message(kind: Kind, sender: u32, place: u32, word: u32, clock: u32) -> Messag
 }
 
 fn act(bridge: &mut Bridge<PlateSetter>) -> Option<Outcome> {
-    let Ok(plan) = bridge.act(1, 2) else {
-        return None;
-    };
-    let plan = plan.settled()?;
+    let plan = bridge.act(1, 2).ok()?.settled()?;
     Some(bridge.perform(1, plan))
 }
 
@@ -36,13 +34,8 @@ fn deliver(bridge: &mut Bridge<PlateSetter>, message: Message<u32>) -> Option<Ou
 }
 
 fn sent(outcome: Option<Outcome>) -> Result<Message, Fail> {
-    let Some(outcome) = outcome else {
-        return Err(Fail::new("no reaction"));
-    };
-    match outcome.sent.at[0] {
-        Some(message) => Ok(message),
-        None => Err(Fail::new("nothing sent")),
-    }
+    let [first, ..] = outcome.ok_or("no reaction")?.sent.at;
+    Ok(first.ok_or("nothing sent")?)
 }
 
 // Told to fetch block 0, by a processor whose clock was 20.
@@ -57,14 +50,14 @@ fn told() -> Bridge<PlateSetter> {
 fn a_refused_request_goes_out_with_the_clock_now(rt: HostRuntime) -> Result<(), Fail> {
     let mut bridge = told();
     let request = sent(act(&mut bridge))?;
-    assert!(rt; request.kind.is(Kind::Rblk));
+    assert_eq!(rt; request.kind, Kind::Rblk);
     assert_eq!(rt; request.clock, 21);
     let value = sent(deliver(&mut bridge, message(Kind::Rio, 1, 6, 0, 30)))?;
     assert_eq!(rt; value.words.at[0], 1);
     let mut nack = message(Kind::Nack, 16, 0, 0, 21);
     nack.refused = Some(Kind::Rblk);
     let again = sent(deliver(&mut bridge, nack))?;
-    assert!(rt; again.kind.is(Kind::Rblk));
+    assert_eq!(rt; again.kind, Kind::Rblk);
     assert_eq!(rt; again.clock, 31);
     Ok(())
 }
@@ -73,14 +66,15 @@ fn a_refused_request_goes_out_with_the_clock_now(rt: HostRuntime) -> Result<(), 
 fn the_interrupt_waits_for_the_block(rt: HostRuntime) -> Result<(), Fail> {
     let mut bridge = told();
     let _ = sent(act(&mut bridge))?;
-    let Err(fault) = bridge.act(1, 2) else {
-        return Err(Fail::new("the interrupt overtook the block"));
-    };
+    let fault = bridge
+        .act(1, 2)
+        .err()
+        .ok_or("the interrupt overtook the block")?;
     assert_eq!(rt; fault.number(), 13);
     let taken = sent(deliver(&mut bridge, message(Kind::Words, 16, 0, 8, 40)))?;
-    assert!(rt; taken.kind.is(Kind::Taken));
+    assert_eq!(rt; taken.kind, Kind::Taken);
     let interrupt = sent(act(&mut bridge))?;
-    assert!(rt; interrupt.kind.is(Kind::Int));
+    assert_eq!(rt; interrupt.kind, Kind::Int);
     assert_eq!(rt; interrupt.sequence, 1);
     assert!(rt; bridge.act(1, 2).is_err());
     Ok(())

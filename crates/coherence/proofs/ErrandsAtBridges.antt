@@ -18,7 +18,7 @@ use Rattle.message.specs.declared.kind.Kind.TheVariants as kind
 use Rattle.message.specs.declared.message.Message.{Message}
 use Rattle.message.specs.declared.reaction.Outbox.{Outbox}
 use Rattle.message.specs.declared.reaction.Reaction.{Reaction}
-use Rattle.message.specs.declared.requests.Requests.{Requests}
+use Rattle.message.specs.Requests.{Requests}
 use Rattle.ordering.specs.Operations.{is}
 use Rattle.ordering.specs.declared.stamp.Stamp.{Stamp}
 use Rattle.processor.specs.Inputs as processor

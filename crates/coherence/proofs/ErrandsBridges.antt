@@ -2,7 +2,7 @@
 use Rattle.std.proofs.Common.{◌≡◌, ℕ, ◌+◌, ◌-◌, ◌<◌, Bool, true, false, ◌||◌, is_some, Some, None, Option, sym, refl, ap, ◌∙◌, subst, arith}
 use Rattle.bridge.proofs.Outs.{none_out}
 use Rattle.processor.proofs.Tables.{put_read}
-use Rattle.bridge.specs.Acts.{some_out}
+use Rattle.std.specs.List.{list_any}
 use Rattle.bridge.specs.Deeds.{performed}
 use Rattle.bridge.specs.Inputs.{Act, Receive, reaction, EachReaction}
 use Rattle.bridge.specs.Receipts.{receive_kind}
@@ -49,7 +49,7 @@ module _ {S : Type 0} (m : Meaning S) where
 
       interrupts_alone : same_kind y.kind kind.Int ≡ true → (k : ℕ) → out b.requests k ≡ None
       interrupts_alone int k =
-          let free = λ (f : some_out b.requests.at ≡ false). none_out b.requests.at f k in
+          let free = λ (f : list_any is_some b.requests.at ≡ false). none_out b.requests.at f k in
           grind (arith, nat_tests, free)
 
       blocks_alone : is_block_request y.kind ≡ true → (y.place < 16) × (out b.requests y.place ≡ None)

@@ -15,7 +15,7 @@ use Rattle.message.specs.Requests.{out, with_out}
 use Rattle.message.specs.declared.kind.Kind.{Kind}
 use Rattle.message.specs.declared.kind.Kind.TheVariants as kind
 use Rattle.message.specs.declared.message.Message.{Message}
-use Rattle.message.specs.declared.requests.Requests.{Requests}
+use Rattle.message.specs.Requests.{Requests}
 use Rattle.message.specs.declared.reaction.Outbox.{Outbox}
 use Rattle.message.specs.declared.reaction.Reaction.{Reaction}
 use Rattle.ordering.specs.declared.operation.Words.{Words}

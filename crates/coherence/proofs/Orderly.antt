@@ -10,7 +10,7 @@ use Rattle.message.specs.declared.figures.Figures.{Figures}
 use Rattle.message.specs.declared.kind.Kind.{Kind}
 use Rattle.message.specs.declared.kind.Kind.TheVariants as kind
 use Rattle.message.specs.declared.message.Message.{Message}
-use Rattle.message.specs.declared.requests.Requests.{Requests}
+use Rattle.message.specs.Requests.{Requests}
 use Rattle.ordering.specs.Operations.{is, is_block}
 use Rattle.ordering.specs.Orders.{ordered, is_io}
 use Rattle.ordering.specs.Words.{first_word}

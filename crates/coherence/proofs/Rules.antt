@@ -14,7 +14,7 @@ use Rattle.message.specs.Kinds.{kind_number, is_request, same_kind}
 use Rattle.message.specs.Requests.{is_out, out}
 use Rattle.message.specs.declared.kind.Kind.{Kind}
 use Rattle.message.specs.declared.kind.Kind.TheVariants as kind
-use Rattle.message.specs.declared.requests.Requests.{Requests}
+use Rattle.message.specs.Requests.{Requests}
 use Rattle.processor.specs.Lines.{line_at}
 use Rattle.processor.specs.Receive as receive
 use Rattle.processor.specs.Slots.{slot_at, is_awaited}

@@ -13,7 +13,7 @@ use Rattle.processor.specs.Laws.{EachReaction}
 use Rattle.processor.specs.Slots.{slot_at, with_slot, is_awaited}
 use Rattle.processor.specs.declared.slot.Slot.{Slot}
 use Rattle.processor.specs.declared.slot.Slot.TheVariants.{Free}
-use Rattle.processor.specs.declared.slot.Slots.{Slots}
+use Rattle.processor.specs.Slots.{Slots}
 use Rattle.processor.specs.declared.state.Processor.{Processor}
 use Rattle.std.proofs.lemmas.List.{get_or_past, get_or-set_same, get_or-set_other, set_past}
 use Rattle.std.proofs.lemmas.Bool.{cases_eq, cases_lt, eq-eqb, ne_eqb, lt-ltb, le-ltb}
