@@ -7,7 +7,7 @@ use crate::directory::{Directory, Phase};
 use crate::processors::Processors;
 use crate::request::Request;
 use message::kind::Kind;
-use ordering::clock::Clock;
+use ordering::clock::{Clock, Settle};
 use ordering::operation::Words;
 
 /// `N` is the width of the clock's numbers, as for `Clock`.
@@ -46,24 +46,27 @@ impl Home {
             },
         }
     }
+}
 
-    /// The same home in the wider numbers.
-    pub fn wide(self) -> Home<u64>
-        ensures { result ≡ self }
-    {
+/// The same home in the wider numbers.
+impl From<Home> for Home<u64> {
+    ghost from_gives = { λ home wide. wide ≡ home };
+
+    fn from(home: Home) -> Home<u64> {
         Home {
-            clock: self.clock.wide(),
-            words: self.words,
-            directory: self.directory,
+            clock: home.clock.into(),
+            words: home.words,
+            directory: home.directory,
         }
     }
 }
 
-impl Home<u64> {
-    /// The home at rest again, or none where a number passed its end.
-    pub fn settled(self) -> Option<Home>
-        ensures { result ≡ settled_home self }
-    {
+impl Settle for Home<u64> {
+    type Rest = Home;
+
+    ghost settled = { settled_home };
+
+    fn settled(self) -> Option<Home> {
         Some(Home {
             clock: self.clock.settled()?,
             words: self.words,

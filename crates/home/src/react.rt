@@ -138,7 +138,7 @@ impl Home {
         ensures { result ≡ refused self block request }
     {
         Reaction {
-            next: self.wide(),
+            next: self.into(),
             sent: Outbox::single(request.nack(block)),
             entry: None,
             answer: None,
@@ -156,7 +156,7 @@ impl Home {
             return next.finished(block);
         }
         Reaction {
-            next: next.wide(),
+            next: next.into(),
             sent: asks(request.asks_by(), block, holders),
             entry: None,
             answer: None,
@@ -212,7 +212,7 @@ impl Home {
             return Some(next.finished(block));
         }
         Some(Reaction {
-            next: next.wide(),
+            next: next.into(),
             sent: Outbox::silent(),
             entry: None,
             answer: None,
@@ -226,7 +226,7 @@ impl Home {
         if is_device(sender) {
             return self.clock.passed(self.clock.global);
         }
-        self.clock.wide()
+        self.clock.into()
     }
 
     fn taken(self, sender: u32) -> Option<Reaction<Home<u64>>>
