@@ -44,16 +44,16 @@ module _ {A B : Type 0} (ma : Meaning A) (mb : Meaning B) (w : World A B) where
     at_second : (i : bridge.Input) (r : Reaction (Bridge B ℕ)) → bridge.reaction mb 1 w.second i ≡ Some r → e ≡ by_second w r → Arises e
 
   -- what a message does at the node that it goes to
-  abbrev pub reacted : Message ℕ → Node → Option (Effect A B)
+  abbrev pub reacted : Message ℕ → Option Node → Option (Effect A B)
   reacted m n =
       elim n [
-        | node.Nowhere ↦ None
-        | node.Processor p ↦ option_map (by_processor w p) (receipt.receive (processor_at w p) p m)
-        | node.Device d ↦
+        | None ↦ None
+        | Some (node.Processor p) ↦ option_map (by_processor w p) (receipt.receive (processor_at w p) p m)
+        | Some (node.Device d) ↦
             cond (ltb d 1)
             (option_map (by_first w) (bridge_reactions.receive ma 0 w.first m))
             (option_map (by_second w) (bridge_reactions.receive mb 1 w.second m))
-        | node.Home b ↦ option_map (by_home w b) (home.received (home_at w b) b m)
+        | Some (node.Home b) ↦ option_map (by_home w b) (home.received (home_at w b) b m)
       ]
 
   pub from_wish : {S : Type 0} (e : Effect A B) (by : Reaction (Bridge S ℕ) → Effect A B) (x : Result (Reaction (Bridge S ℕ)) DeviceFault) → wished by x ≡ Ok e

@@ -58,10 +58,10 @@ mapped_some : {X Y : Type 0} (f : X → Y) (o : Option X) → is_some o ≡ true
 mapped_some f (Some x) is = refl
 mapped_some f None is = is
 
-home_numbered : (b : ℕ) → b < 16 → node_numbered (home_node b) ≡ node.Home b
+home_numbered : (b : ℕ) → b < 16 → node_numbered (home_node b) ≡ Some (node.Home b)
 home_numbered b small = grind arith
 
-processor_numbered : (p : ℕ) → p < 4 → node_numbered p ≡ node.Processor p
+processor_numbered : (p : ℕ) → p < 4 → node_numbered p ≡ Some (node.Processor p)
 processor_numbered p small = grind arith
 
 bridge_some : {S : Type 0} (m : Meaning S) (d : ℕ) (b : Bridge S ℕ) (x : Message ℕ) → is_some (bridge_messages.receive_plan m d b x) ≡ true → is_some (bridge.receive m d b x) ≡ true

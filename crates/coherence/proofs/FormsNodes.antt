@@ -8,25 +8,30 @@ use Rattle.message.specs.declared.form.End.{End}
 use Rattle.message.specs.declared.form.End.TheVariants as end
 use Rattle.message.specs.declared.form.Form.{Form}
 use Rattle.message.specs.declared.message.Message.{Message}
+use Rattle.message.specs.declared.node.Node.{Node}
 use Rattle.message.specs.declared.node.Node.TheVariants as node
 use Rattle.std.proofs.lemmas.Bool.{ltb-true, leb-true, ltb-false, eqb-true, ne_eqb, and_parts, or_cases, both_ways}
 use Rattle.coherence.proofs.Arising.{never}
 use Rattle.coherence.proofs.FormsBuilt.{Well, fits_parts}
 
+-- by the tests on the number
+abbrev numbered : ℕ → Bool → Bool → Bool → Option Node
+numbered n x y z = cond x (Some (node.Processor n)) (cond y (Some (node.Device (n - 4))) (cond z (Some (node.Home (n - 16))) None))
+
 -- where a number is a node's
-pub processor_number : (n p : ℕ) → node_numbered n ≡ node.Processor p → (n ≡ p) × (n < 4)
+pub processor_number : (n p : ℕ) → node_numbered n ≡ Some (node.Processor p) → (n ≡ p) × (n < 4)
 processor_number n p h = go (ltb n 4) (ltb n 6) (leb 16 n && ltb n 32) refl h
   where
-    go : (x y z : Bool) → ltb n 4 ≡ x → cond x (node.Processor n) (cond y (node.Device (n - 4)) (cond z (node.Home (n - 16)) node.Nowhere)) ≡ node.Processor p → (n ≡ p) × (n < 4)
+    go : (x y z : Bool) → ltb n 4 ≡ x → numbered n x y z ≡ Some (node.Processor p) → (n ≡ p) × (n < 4)
     go true y z small h = (cc, ltb-true n 4 small)
     go false true z small h = never cc
     go false false true small h = never cc
     go false false false small h = never cc
 
-pub device_number : (n d : ℕ) → node_numbered n ≡ node.Device d → (n ≡ device_node d) × (d < 2)
+pub device_number : (n d : ℕ) → node_numbered n ≡ Some (node.Device d) → (n ≡ device_node d) × (d < 2)
 device_number n d h = go (ltb n 4) (ltb n 6) (leb 16 n && ltb n 32) refl refl h
   where
-    go : (x y z : Bool) → ltb n 4 ≡ x → ltb n 6 ≡ y → cond x (node.Processor n) (cond y (node.Device (n - 4)) (cond z (node.Home (n - 16)) node.Nowhere)) ≡ node.Device d → (n ≡ device_node d) × (d < 2)
+    go : (x y z : Bool) → ltb n 4 ≡ x → ltb n 6 ≡ y → numbered n x y z ≡ Some (node.Device d) → (n ≡ device_node d) × (d < 2)
     go true y z four six h = never cc
     go false true z four six h =
         let same : n - 4 ≡ d = cc in
@@ -36,10 +41,10 @@ device_number n d h = go (ltb n 4) (ltb n 6) (leb 16 n && ltb n 32) refl refl h
     go false false true four six h = never cc
     go false false false four six h = never cc
 
-pub home_number : (n b : ℕ) → node_numbered n ≡ node.Home b → (n ≡ home_node b) × (b < 16)
+pub home_number : (n b : ℕ) → node_numbered n ≡ Some (node.Home b) → (n ≡ home_node b) × (b < 16)
 home_number n b h = go (ltb n 4) (ltb n 6) (leb 16 n && ltb n 32) refl h
   where
-    go : (x y z : Bool) → (leb 16 n && ltb n 32) ≡ z → cond x (node.Processor n) (cond y (node.Device (n - 4)) (cond z (node.Home (n - 16)) node.Nowhere)) ≡ node.Home b → (n ≡ home_node b) × (b < 16)
+    go : (x y z : Bool) → (leb 16 n && ltb n 32) ≡ z → numbered n x y z ≡ Some (node.Home b) → (n ≡ home_node b) × (b < 16)
     go true y z small h = never cc
     go false true z small h = never cc
     go false false true small h =

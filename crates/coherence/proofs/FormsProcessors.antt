@@ -108,11 +108,11 @@ module _ (f : Figures) (n : ℕ) (own : has_processor f n ≡ true) where
   fetch_well s d v c slot.Abandoned is = rw (is, fetched) (λ _. tt)
   fetch_well s d v c (slot.Came u) is = rw (is, fetched) tt
 
-  value_well : (s : Processor ℕ) (from v c : ℕ) (x : Node) → node_numbered from ≡ x → ToldWell f (fetched_from s from v c)
-  value_well s from v c node.Nowhere is = rw (is, fetched_from) tt
-  value_well s from v c (node.Processor p) is = rw (is, fetched_from) tt
-  value_well s from v c (node.Device d) is = rw (is, fetched_from) (fetch_well s d v c (slot_at s.slots d) refl)
-  value_well s from v c (node.Home b) is = rw (is, fetched_from) tt
+  value_well : (s : Processor ℕ) (from v c : ℕ) (x : Option Node) → node_numbered from ≡ x → ToldWell f (fetched_from s from v c)
+  value_well s from v c None is = rw (is, fetched_from) tt
+  value_well s from v c (Some (node.Processor p)) is = rw (is, fetched_from) tt
+  value_well s from v c (Some (node.Device d)) is = rw (is, fetched_from) (fetch_well s d v c (slot_at s.slots d) refl)
+  value_well s from v c (Some (node.Home b)) is = rw (is, fetched_from) tt
 
   module _ (s : Processor ℕ) (m : Message ℕ) (well : Well f m) where
     sound : Sound m

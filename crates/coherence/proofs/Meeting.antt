@@ -99,19 +99,19 @@ module _ {A B : Type 0} (ma : Meaning A) (mb : Meaning B) (w : World A B) where
     goes : (to : ℕ) → Well (figures ma mb w) message → message.receiver ≡ to → Goes (Deliver i) message to
     goes to well is = record { at = i; call = refl; there = there; turn = turn; is = refl; well = well; receiver = is }
 
-    from_node : (e : Effect A B) (n : Node) → Well (figures ma mb w) message → node_numbered message.receiver ≡ n → reacted ma mb w message n ≡ Some e → Meets (Deliver i) e
-    from_node e node.Nowhere well at h = never cc
-    from_node e (node.Processor p) well at h =
+    from_node : (e : Effect A B) (n : Option Node) → Well (figures ma mb w) message → node_numbered message.receiver ≡ n → reacted ma mb w message n ≡ Some e → Meets (Deliver i) e
+    from_node e None well at h = never cc
+    from_node e (Some (node.Processor p)) well at h =
         let x = came (by_processor w p) (receipt.receive (processor_at w p) p message) e h in
         let n = processor_number message.receiver p at in
         let on = receiver_on_board (figures ma mb w) message well n.1 in
         let lt = ltb-true message.receiver w.count (and_parts (ltb message.receiver 4) (ltb message.receiver w.count) on).1 in
         to_processor p (subst (λ (q : ℕ). q < w.count) n.0 lt) message x.0 (goes p well n.0) x.1 x.2
-    from_node e (node.Home b) well at h =
+    from_node e (Some (node.Home b)) well at h =
         let x = came (by_home w b) (home.received (home_at w b) b message) e h in
         let n = home_number message.receiver b at in
         to_home b n.1 message x.0 (goes (home_node b) well n.0) x.1 x.2
-    from_node e (node.Device d) well at h = go (ltb d 1) refl h
+    from_node e (Some (node.Device d)) well at h = go (ltb d 1) refl h
       where
         two : (message.receiver ≡ device_node d) × (d < 2)
         two = device_number message.receiver d at

@@ -131,13 +131,13 @@ module _ {A B : Type 0} (ma : Meaning A) (mb : Meaning B) where
   delivered w m =
       cond (well_formed (figures w) m)
       (elim (node_numbered m.receiver) [
-        | node.Nowhere ↦ None
-        | node.Processor p ↦ option_map (by_processor w p) (processor_messages.receive (processor_at w p) p m)
-        | node.Device d ↦
+        | None ↦ None
+        | Some (node.Processor p) ↦ option_map (by_processor w p) (processor_messages.receive (processor_at w p) p m)
+        | Some (node.Device d) ↦
             cond (nat_lt d 1)
             (option_map (by_first w) (bridge.receive ma 0 w.first m))
             (option_map (by_second w) (bridge.receive mb 1 w.second m))
-        | node.Home b ↦ option_map (by_home w b) (home.received (home_at w b) b m)
+        | Some (node.Home b) ↦ option_map (by_home w b) (home.received (home_at w b) b m)
       ])
       None
 
