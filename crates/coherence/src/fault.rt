@@ -2,11 +2,13 @@
 
 ghost use Rattle.std.specs.Prelude.{◌≡◌};
 ghost use Rattle.coherence.specs.Faults.{fault_layer, fault_number, fault_place};
-ghost use Rattle.coherence.specs.declared.fault.BoardFault.TheVariants.{Refused};
+ghost use Rattle.trail.specs.Sources as source;
+ghost use Rattle.coherence.specs.declared.fault.BoardFault.TheVariants.{Argument, Refused};
 ghost use Rattle.coherence.specs.declared.fault.Fault.TheVariants.{Device, Network, Board};
 
 use bridge::fault::DeviceFault;
 use processor::refusal::Refusal;
+use trail::source::SourceFault;
 
 #[derive(Clone, Copy)]
 pub enum NetworkFault {
@@ -95,6 +97,14 @@ impl From<DeviceFault> for Fault {
 
     fn from(fault: DeviceFault) -> Fault {
         Fault::Device(fault)
+    }
+}
+
+impl From<SourceFault> for Fault {
+    ghost from_gives = { λ e r. r ≡ Board (Argument (source.fault_place e)) };
+
+    fn from(fault: SourceFault) -> Fault {
+        Fault::Board(BoardFault::Argument(fault.place()))
     }
 }
 

@@ -66,8 +66,8 @@ impl From<Clock> for Clock<u64> {
 }
 
 /// What has numbers that may stand past their end, and comes to rest where none does.
-pub trait Settle {
-    type Rest;
+pub trait Settle: Copy {
+    type Rest: Copy;
 
     ghost settled: { Self → Option Self.Rest };
 

@@ -1,5 +1,5 @@
--- A bridge's reaction is its decision, performed: from a decision to the step that a call or a delivery makes.
-use Rattle.std.proofs.Common.{◌≡◌, ℕ, Some, None, Ok, Err, Option, Result, sym, ap}
+-- A bridge's reaction is its decision, performed: from a decision to what is committed.
+use Rattle.std.proofs.Common.{◌≡◌, ℕ, List, Some, None, Ok, Err, Option, Result, sym, ap}
 use Rattle.bridge.specs.Acts.{act_plan}
 use Rattle.bridge.specs.Deeds.{performed}
 use Rattle.bridge.specs.Receipts.{receive_plan}
@@ -7,29 +7,20 @@ use Rattle.bridge.specs.Reactions.{act, receive}
 use Rattle.bridge.specs.declared.fault.DeviceFault.{DeviceFault}
 use Rattle.bridge.specs.declared.plan.Plan.{Plan}
 use Rattle.bridge.specs.declared.state.Bridge.{Bridge}
-use Rattle.coherence.specs.Steps.{Answer, Effect, committed, ruled, wished, settled}
-use Rattle.coherence.specs.Worlds.{World}
-use Rattle.coherence.specs.declared.call.Call.{Call}
 use Rattle.device.specs.Meaning.{Meaning}
 use Rattle.message.specs.declared.message.Message.{Message}
-use Rattle.message.specs.declared.reaction.Reaction.{Reaction}
-use Rattle.std.specs.Option.{option_map}
-use Rattle.coherence.specs.Steps as steps
-use Rattle.raster.specs.Fitting.{planned}
+use Rattle.trail.specs.declared.entry.Entry.{Entry}
+use Rattle.raster.specs.Fitting.{planned, plan_committed, bridge_committed, by_wish, by_rule}
 
-module _ {A B S : Type 0} (ma : Meaning A) (mb : Meaning B) (m : Meaning S) (effect : Reaction (Bridge S ℕ) → Effect A B) (c : Call) (w : World A B) where
-  abbrev outcome : ℕ → Bridge S ℕ → Result (Plan ℕ) DeviceFault → Answer × World A B
-  outcome d b r = settled ma mb c w (wished effect (elim r [ Ok p ↦ Ok (performed m d b p) | Err f ↦ Err f ]))
-
-  pub acts : (d ps : ℕ) (b : Bridge S ℕ) (p : Plan ℕ) → act_plan m d ps b ≡ Ok p
-      → committed w (steps.waiting ma mb c w) (effect (planned m d b p)) ≡ settled ma mb c w (wished effect (act m d ps b))
+module _ {S : Type 0} (m : Meaning S) (d : ℕ) (b : Bridge S ℕ) (ms ws : List (Message ℕ)) (mr : ℕ) (es : List Entry) (tr : ℕ) where
+  pub acts : (ps : ℕ) (p : Plan ℕ) → act_plan m d ps b ≡ Ok p
+      → plan_committed d b (planned m d b p) ms ws mr es tr ≡ bridge_committed d b (by_wish (act m d ps b)) ms ws mr es tr
   unfolding planned
-  acts d ps b p is = sym (ap (outcome d b) is)
+  acts ps p is =
+      sym (ap (λ (r : Result (Plan ℕ) DeviceFault). bridge_committed d b (by_wish (elim r [ Ok p ↦ Ok (performed m d b p) | Err f ↦ Err f ])) ms ws mr es tr) is)
 
-  abbrev rule : ℕ → Bridge S ℕ → ℕ → Option (Plan ℕ) → Answer × World A B
-  rule d b i o = settled ma mb c w (ruled ma mb w i (option_map effect (elim o [ Some p ↦ Some (performed m d b p) | None ↦ None ])))
-
-  pub receives : (d i : ℕ) (b : Bridge S ℕ) (x : Message ℕ) (p : Plan ℕ) → receive_plan m d b x ≡ Some p
-      → committed w (steps.waiting ma mb c w) (effect (planned m d b p)) ≡ settled ma mb c w (ruled ma mb w i (option_map effect (receive m d b x)))
+  pub receives : (i : ℕ) (x : Message ℕ) (p : Plan ℕ) → receive_plan m d b x ≡ Some p
+      → plan_committed d b (planned m d b p) ms ws mr es tr ≡ bridge_committed d b (by_rule i (receive m d b x)) ms ws mr es tr
   unfolding planned
-  receives d i b x p is = sym (ap (rule d b i) is)
+  receives i x p is =
+      sym (ap (λ (o : Option (Plan ℕ)). bridge_committed d b (by_rule i (elim o [ Some p ↦ Some (performed m d b p) | None ↦ None ])) ms ws mr es tr) is)

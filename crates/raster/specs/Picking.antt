@@ -8,7 +8,7 @@ use Rattle.message.specs.Messages.{no_message}
 use Rattle.message.specs.Pairs.{oldest_of_pair}
 use Rattle.message.specs.declared.message.Message.{Message}
 use Rattle.message.specs.declared.node.Node.{Node}
-use Rattle.message.specs.declared.node.Node.TheVariants.{Nowhere, Processor, Device, Home}
+use Rattle.message.specs.declared.node.Node.TheVariants.{Processor, Device, Home}
 
 abbrev pub unless_older : Option ℕ → Message ℕ → Result (Message ℕ) Fault
 unless_older None m = Ok m
@@ -19,8 +19,8 @@ abbrev pub picked : List (Message ℕ) → ℕ → Result (Message ℕ) Fault
 picked ms i = check (nat_lt i (length ms)) (argument 1) (unless_older (oldest_of_pair ms i) (slice_index_or ms i no_message))
 
 -- A processor or a home that the tables have.
-abbrev pub There : Node → Type 0
-There Nowhere = Unit {0}
-There (Processor p) = p < 4
-There (Device d) = Unit {0}
-There (Home b) = b < 16
+abbrev pub There : Option Node → Type 0
+There None = Unit {0}
+There (Some (Processor p)) = p < 4
+There (Some (Device d)) = Unit {0}
+There (Some (Home b)) = b < 16

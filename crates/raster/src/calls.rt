@@ -9,7 +9,7 @@ ghost use Rattle.raster.specs.Boards.{world};
 
 use crate::board::Board;
 use coherence::call::Call;
-use coherence::fault::{BoardFault, Fault};
+use coherence::fault::Fault;
 use device::meaning::Device;
 use list::List;
 use message::message::Message;
@@ -179,12 +179,7 @@ impl<A: Device, B: Device> Board<A, B> {
     ) -> Result<Option<(usize, u32)>, Fault>
         ensures { result ≡ source_answer self.now.tables.fit (contents trail.now) «entry» word }
     {
-        if !self.tables.fit {
-            return Err(Fault::Board(BoardFault::NotFit));
-        }
-        match source(trail.records(), entry, word) {
-            Ok(found) => Ok(found),
-            Err(fault) => Err(Fault::Board(BoardFault::Argument(fault.place()))),
-        }
+        self.check_fit()?;
+        Ok(source(trail.records(), entry, word)?)
     }
 }

@@ -10,7 +10,7 @@ ghost use Rattle.list.specs.Contents.{contents, room};
 ghost use Rattle.message.specs.Reactions.{sent_count};
 ghost use Rattle.std.specs.Option.{option_to_list};
 ghost use Rattle.raster.specs.Answers.{done};
-ghost use Rattle.raster.specs.Fitting.{fitting, planned, plan_committed};
+ghost use Rattle.raster.specs.Fitting.{fitting, planned, plan_committed, reaction_committed};
 ghost use Rattle.raster.specs.Boards.{world, left};
 
 use crate::board::Board;
@@ -24,6 +24,7 @@ use home::machine::Home;
 use list::List;
 use message::message::Message;
 use message::reaction::Reaction;
+use ordering::clock::Settle;
 use processor::state::Processor;
 use trail::entry::Entry;
 
@@ -44,10 +45,31 @@ fn fitting(
         plan.deed.sends(),
         plan.deed.enters(),
     )?;
-    let Some(plan) = plan.settled() else {
-        return Err(Fault::Board(BoardFault::NumberEnds(4 + u32::from(number))));
-    };
-    Ok(plan)
+    let node = 4 + u32::from(number);
+    Ok(plan.settled().ok_or(BoardFault::NumberEnds(node))?)
+}
+
+// What the lists get of a reaction of this node, and the node's state with its numbers at rest.
+fn commit_reaction<W: Settle>(
+    messages: &mut List<Message>,
+    trail: &mut List<Entry>,
+    taken: Option<usize>,
+    node: u32,
+    reaction: Reaction<W>,
+) -> Result<W::Rest, Fault>
+    ensures value { (result, contents messages.new, contents trail.new) ≡ reaction_committed W.settled node reaction (contents messages.old) (left (contents messages.old) taken) (room messages.old) (contents trail.old) (room trail.old) }
+    ensures rooms { (room messages.new ≡ room messages.old) × (room trail.new ≡ room trail.old) }
+{
+    let Reaction {
+        next,
+        sent,
+        entry,
+        ..
+    } = reaction;
+    check_room(messages, trail, taken, sent.count(), entry.is_some())?;
+    let rest = next.settled().ok_or(BoardFault::NumberEnds(node))?;
+    post(messages, trail, taken, sent, entry);
+    Ok(rest)
 }
 
 fn perform<D: Device>(bridge: &mut Bridge<D>, number: u8, plan: Plan) -> Outcome
@@ -57,7 +79,7 @@ fn perform<D: Device>(bridge: &mut Bridge<D>, number: u8, plan: Plan) -> Outcome
     bridge.perform(number, plan)
 }
 
-fn commit_plan<D: Device>(
+pub(crate) fn commit_plan<D: Device>(
     bridge: &mut Bridge<D>,
     messages: &mut List<Message>,
     trail: &mut List<Entry>,
@@ -88,17 +110,7 @@ impl<A: Device, B: Device> Board<A, B> {
         ensures step { (result, world A.Device.state B.Device.state self.new messages.new trail.new) ≡ committed (world A.Device.state B.Device.state self.old messages.old trail.old) (left (contents messages.old) taken) (by_processor (world A.Device.state B.Device.state self.old messages.old trail.old) processor reaction) }
         ensures answer { IfOk result (λ a. a ≡ reaction.answer) }
     {
-        check_room(
-            messages,
-            trail,
-            taken,
-            reaction.sent.count(),
-            reaction.entry.is_some(),
-        )?;
-        let Some(next) = reaction.next.settled() else {
-            return Err(Fault::Board(BoardFault::NumberEnds(processor)));
-        };
-        post(messages, trail, taken, reaction.sent, reaction.entry);
+        let next = commit_reaction(messages, trail, taken, processor, reaction)?;
         self.tables.processors[processor as usize] = next;
         Ok(reaction.answer)
     }
@@ -115,42 +127,8 @@ impl<A: Device, B: Device> Board<A, B> {
         ensures step { (result, world A.Device.state B.Device.state self.new messages.new trail.new) ≡ committed (world A.Device.state B.Device.state self.old messages.old trail.old) (left (contents messages.old) taken) (by_home (world A.Device.state B.Device.state self.old messages.old trail.old) block reaction) }
         ensures answer { IfOk result (λ a. a ≡ reaction.answer) }
     {
-        check_room(
-            messages,
-            trail,
-            taken,
-            reaction.sent.count(),
-            reaction.entry.is_some(),
-        )?;
-        let Some(next) = reaction.next.settled() else {
-            return Err(Fault::Board(BoardFault::NumberEnds(16 + block)));
-        };
-        post(messages, trail, taken, reaction.sent, reaction.entry);
+        let next = commit_reaction(messages, trail, taken, 16 + block, reaction)?;
         self.tables.homes[block as usize] = next;
         Ok(reaction.answer)
-    }
-
-    pub(crate) fn commit_first(
-        &mut self,
-        messages: &mut List<Message>,
-        trail: &mut List<Entry>,
-        taken: Option<usize>,
-        plan: Plan<u64>,
-    ) -> Result<(), Fault>
-        ensures { (done result, world A.Device.state B.Device.state self.new messages.new trail.new) ≡ committed (world A.Device.state B.Device.state self.old messages.old trail.old) (left (contents messages.old) taken) (by_first (world A.Device.state B.Device.state self.old messages.old trail.old) (planned A.Device.meaning 0 (view A.Device.state self.old.first) plan)) }
-    {
-        commit_plan(&mut self.first, messages, trail, taken, 0, plan)
-    }
-
-    pub(crate) fn commit_second(
-        &mut self,
-        messages: &mut List<Message>,
-        trail: &mut List<Entry>,
-        taken: Option<usize>,
-        plan: Plan<u64>,
-    ) -> Result<(), Fault>
-        ensures { (done result, world A.Device.state B.Device.state self.new messages.new trail.new) ≡ committed (world A.Device.state B.Device.state self.old messages.old trail.old) (left (contents messages.old) taken) (by_second (world A.Device.state B.Device.state self.old messages.old trail.old) (planned B.Device.meaning 1 (view B.Device.state self.old.second) plan)) }
-    {
-        commit_plan(&mut self.second, messages, trail, taken, 1, plan)
     }
 }

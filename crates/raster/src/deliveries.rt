@@ -3,11 +3,11 @@
 ghost use Rattle.std.specs.Prelude.{◌≡◌, ◌<◌, true, [], ◌∷◌, length, is_some, IfSome, IfOk, None, OnOk, nat_lt, slice_index_or};
 ghost use Rattle.bridge.specs.Reactions as bridge_messages;
 ghost use Rattle.bridge.specs.States.{view};
-ghost use Rattle.coherence.specs.Steps.{step, settled, ruled, delivered, by_processor, by_home, by_first, by_second};
+ghost use Rattle.coherence.specs.Steps.{step, settled, ruled, delivered, by_processor, by_home};
 ghost use Rattle.coherence.specs.Worlds.{no_processor, no_home};
 ghost use Rattle.coherence.specs.declared.call.Call.TheVariants.{Deliver};
 ghost use Rattle.home.specs.Reactions.{received};
-ghost use Rattle.list.specs.Contents.{contents};
+ghost use Rattle.list.specs.Contents.{contents, room, removed};
 ghost use Rattle.message.specs.Checks.{checked, well_formed};
 ghost use Rattle.message.specs.Messages.{no_message};
 ghost use Rattle.message.specs.Nodes.{node_numbered};
@@ -16,9 +16,12 @@ ghost use Rattle.processor.specs.Receive.{receive};
 ghost use Rattle.std.specs.Option.{option_map};
 ghost use Rattle.raster.specs.Answers.{done};
 ghost use Rattle.raster.specs.Boards.{world};
+ghost use Rattle.raster.specs.Fitting.{bridge_committed, by_rule};
 ghost use Rattle.raster.specs.Picking.{picked, There};
 
 use crate::board::Board;
+use crate::commit::commit_plan;
+use bridge::state::Bridge;
 use coherence::fault::{BoardFault, Fault, NetworkFault};
 use device::meaning::Device;
 use list::List;
@@ -36,21 +39,36 @@ fn pick(messages: &List<Message>, place: usize) -> Result<Message, Fault>
     ensures same { IfOk result (λ m. m ≡ slice_index_or (contents messages.now) place no_message) }
 {
     let messages = messages.records();
-    if place >= messages.len() {
-        return Err(Fault::Board(BoardFault::Argument(1)));
-    }
+    let message = messages.get(place).copied().ok_or(BoardFault::Argument(1))?;
     if let Some(oldest) = oldest_of_pair(messages, place) {
         return Err(Fault::Network(NetworkFault::OlderWaits(oldest)));
     }
-    Ok(messages[place])
+    Ok(message)
 }
 
 // The node that a message goes to.
-fn receiver(message: Message<u32>) -> Node
+fn receiver(message: Message<u32>) -> Option<Node>
     ensures value { result ≡ node_numbered message.receiver }
     ensures there { There result }
 {
     Node::numbered(message.receiver)
+}
+
+// The message reaches one bridge.
+fn reach_at<D: Device>(
+    bridge: &mut Bridge<D>,
+    messages: &mut List<Message>,
+    trail: &mut List<Entry>,
+    number: u8,
+    place: usize,
+    message: Message<u32>,
+) -> Result<(), Fault>
+    ensures value { (done result, view D.Device.state bridge.new, contents messages.new, contents trail.new) ≡ bridge_committed number (view D.Device.state bridge.old) (by_rule place (bridge_messages.receive D.Device.meaning number (view D.Device.state bridge.old) message)) (contents messages.old) (removed (contents messages.old) place) (room messages.old) (contents trail.old) (room trail.old) }
+    ensures rooms { (room messages.new ≡ room messages.old) × (room trail.new ≡ room trail.old) }
+{
+    let plan = bridge.receive(number, message);
+    let plan = plan.ok_or(NetworkFault::NoRule(place))?;
+    commit_plan(bridge, messages, trail, Some(place), number, plan)
 }
 
 impl<A: Device, B: Device> Board<A, B> {
@@ -84,9 +102,8 @@ impl<A: Device, B: Device> Board<A, B> {
         ensures { (done result, world A.Device.state B.Device.state self.new messages.new trail.new) ≡ settled A.Device.meaning B.Device.meaning (Deliver place) (world A.Device.state B.Device.state self.old messages.old trail.old) (ruled A.Device.meaning B.Device.meaning (world A.Device.state B.Device.state self.old messages.old trail.old) place (option_map (by_processor (world A.Device.state B.Device.state self.old messages.old trail.old) processor) (receive (slice_index_or self.old.tables.processors processor no_processor) processor message))) }
     {
         let state = self.tables.processors[processor as usize];
-        let Some(reaction) = state.receive(processor, message) else {
-            return Err(Fault::Network(NetworkFault::NoRule(place)));
-        };
+        let reaction = state.receive(processor, message);
+        let reaction = reaction.ok_or(NetworkFault::NoRule(place))?;
         let _ = self.commit_processor(messages, trail, Some(place), processor, reaction)?;
         Ok(())
     }
@@ -103,41 +120,10 @@ impl<A: Device, B: Device> Board<A, B> {
         ensures { (done result, world A.Device.state B.Device.state self.new messages.new trail.new) ≡ settled A.Device.meaning B.Device.meaning (Deliver place) (world A.Device.state B.Device.state self.old messages.old trail.old) (ruled A.Device.meaning B.Device.meaning (world A.Device.state B.Device.state self.old messages.old trail.old) place (option_map (by_home (world A.Device.state B.Device.state self.old messages.old trail.old) block) (received (slice_index_or self.old.tables.homes block no_home) block message))) }
     {
         let state = self.tables.homes[block as usize];
-        let Some(reaction) = state.receive(block, message) else {
-            return Err(Fault::Network(NetworkFault::NoRule(place)));
-        };
+        let reaction = state.receive(block, message);
+        let reaction = reaction.ok_or(NetworkFault::NoRule(place))?;
         let _ = self.commit_home(messages, trail, Some(place), block, reaction)?;
         Ok(())
-    }
-
-    fn reach_first(
-        &mut self,
-        messages: &mut List<Message>,
-        trail: &mut List<Entry>,
-        place: usize,
-        message: Message<u32>,
-    ) -> Result<(), Fault>
-        ensures { (done result, world A.Device.state B.Device.state self.new messages.new trail.new) ≡ settled A.Device.meaning B.Device.meaning (Deliver place) (world A.Device.state B.Device.state self.old messages.old trail.old) (ruled A.Device.meaning B.Device.meaning (world A.Device.state B.Device.state self.old messages.old trail.old) place (option_map (by_first (world A.Device.state B.Device.state self.old messages.old trail.old)) (bridge_messages.receive A.Device.meaning 0 (view A.Device.state self.old.first) message))) }
-    {
-        let Some(plan) = self.first.receive(0, message) else {
-            return Err(Fault::Network(NetworkFault::NoRule(place)));
-        };
-        self.commit_first(messages, trail, Some(place), plan)
-    }
-
-    fn reach_second(
-        &mut self,
-        messages: &mut List<Message>,
-        trail: &mut List<Entry>,
-        place: usize,
-        message: Message<u32>,
-    ) -> Result<(), Fault>
-        ensures { (done result, world A.Device.state B.Device.state self.new messages.new trail.new) ≡ settled A.Device.meaning B.Device.meaning (Deliver place) (world A.Device.state B.Device.state self.old messages.old trail.old) (ruled A.Device.meaning B.Device.meaning (world A.Device.state B.Device.state self.old messages.old trail.old) place (option_map (by_second (world A.Device.state B.Device.state self.old messages.old trail.old)) (bridge_messages.receive B.Device.meaning 1 (view B.Device.state self.old.second) message))) }
-    {
-        let Some(plan) = self.second.receive(1, message) else {
-            return Err(Fault::Network(NetworkFault::NoRule(place)));
-        };
-        self.commit_second(messages, trail, Some(place), plan)
     }
 
     // The message reaches its receiver, if it is well formed on this board.
@@ -150,16 +136,14 @@ impl<A: Device, B: Device> Board<A, B> {
     ) -> Result<(), Fault>
         ensures { (done result, world A.Device.state B.Device.state self.new messages.new trail.new) ≡ settled A.Device.meaning B.Device.meaning (Deliver place) (world A.Device.state B.Device.state self.old messages.old trail.old) (ruled A.Device.meaning B.Device.meaning (world A.Device.state B.Device.state self.old messages.old trail.old) place (delivered A.Device.meaning B.Device.meaning (world A.Device.state B.Device.state self.old messages.old trail.old) message)) }
     {
-        let Some(message) = self.formed(message) else {
-            return Err(Fault::Network(NetworkFault::NoRule(place)));
-        };
-        match receiver(message) {
-            Node::Nowhere => Err(Fault::Network(NetworkFault::NoRule(place))),
+        let no_rule = NetworkFault::NoRule(place);
+        let message = self.formed(message).ok_or(no_rule)?;
+        match receiver(message).ok_or(no_rule)? {
             Node::Processor(processor) => {
                 self.reach_processor(messages, trail, place, processor, message)
             }
-            Node::Device(0) => self.reach_first(messages, trail, place, message),
-            Node::Device(_) => self.reach_second(messages, trail, place, message),
+            Node::Device(0) => reach_at(&mut self.first, messages, trail, 0, place, message),
+            Node::Device(_) => reach_at(&mut self.second, messages, trail, 1, place, message),
             Node::Home(block) => self.reach_home(messages, trail, place, block, message),
         }
     }
@@ -173,9 +157,7 @@ impl<A: Device, B: Device> Board<A, B> {
     ) -> Result<(), Fault>
         ensures { (done result, world A.Device.state B.Device.state self.new messages.new trail.new) ≡ step A.Device.meaning B.Device.meaning (Deliver place) (world A.Device.state B.Device.state self.old messages.old trail.old) }
     {
-        if !self.tables.fit {
-            return Err(Fault::Board(BoardFault::NotFit));
-        }
+        self.check_fit()?;
         let place = place as usize;
         let message = pick(messages, place)?;
         self.reach(messages, trail, place, message)

@@ -21,10 +21,7 @@ use trail::entry::Entry;
 fn word_at(words: &[u32], place: usize) -> u32
     ensures { result ≡ slice_index words.now place }
 {
-    if place >= words.len() {
-        return 0;
-    }
-    words[place]
+    words.get(place).copied().unwrap_or(0)
 }
 
 fn block_words(words: &[u32], block: usize) -> Words
@@ -44,6 +41,7 @@ fn block_words(words: &[u32], block: usize) -> Words
 fn homes_from(words: &[u32], clock: u32) -> [Home; 16]
     ensures { result ≡ homes_from words.now clock }
 {
+    // Not `array::from_fn`: what it made was not proved to be what its closure says.
     let mut homes = [Home::new(clock, Words::ZERO); 16];
     for block in 0..16 {
         homes[block] = Home::new(clock, block_words(words, block));
@@ -56,14 +54,11 @@ fn fits(processors: u32, clock: u32, words: usize, first: u32, second: u32) -> b
     ensures value { result ≡ figures_fit processors clock words first second }
     ensures few { result ≡ true → processors ≤ 4 }
 {
-    1 <= processors
-        && processors <= 4
+    (1..=4).contains(&processors)
         && clock <= END
         && words == 64
-        && 1 <= first
-        && first <= 64
-        && 1 <= second
-        && second <= 64
+        && (1..=64).contains(&first)
+        && (1..=64).contains(&second)
 }
 
 impl<A: Device, B: Device> Board<A, B> {

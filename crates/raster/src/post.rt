@@ -14,16 +14,13 @@ use message::reaction::Outbox;
 use trail::entry::Entry;
 
 // How many messages wait once the one at `taken` is out.
+#[tactic(auto, using(crate::proofs::Posting::one_less, crate::proofs::Posting::none_less))]
 fn waiting(messages: &List<Message>, taken: Option<usize>) -> usize
     ensures { result ≡ length (left (contents messages.now) taken) }
 {
-    let Some(place) = taken else {
-        return messages.len();
-    };
-    if place < messages.len() {
-        messages.len() - 1
-    } else {
-        messages.len()
+    match taken {
+        Some(place) if place < messages.len() => messages.len() - 1,
+        _ => messages.len(),
     }
 }
 

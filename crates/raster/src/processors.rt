@@ -24,12 +24,8 @@ impl<A: Device, B: Device> Board<A, B> {
         ensures value { result ≡ check self.now.tables.fit (fault.Board NotFit) (check (nat_lt number self.now.tables.count) (argument 1) (Ok (slice_index_or self.now.tables.processors number no_processor))) }
         ensures place { OnOk result (number < 4) }
     {
-        if !self.tables.fit {
-            return Err(Fault::Board(BoardFault::NotFit));
-        }
-        if number >= self.tables.count {
-            return Err(Fault::Board(BoardFault::Argument(1)));
-        }
+        self.check_fit()?;
+        check_below(number, self.tables.count, 1)?;
         Ok(self.tables.processors[number as usize])
     }
 
@@ -100,9 +96,7 @@ impl<A: Device, B: Device> Board<A, B> {
     {
         let state = self.processor(processor)?;
         check_below(block, 16, 2)?;
-        let Some(kind) = Kind::requested(kind) else {
-            return Err(Fault::Board(BoardFault::Argument(3)));
-        };
+        let kind = Kind::requested(kind).ok_or(BoardFault::Argument(3))?;
         let reaction = state.request(processor, block, kind)?;
         self.commit_processor(messages, trail, None, processor, reaction)
     }

@@ -29,6 +29,7 @@ impl<A: Device, B: Device> Board<A, B> {
     {
         for (place, call) in calls.iter().enumerate() {
             let answer = self.call(messages, trail, *call);
+            // Not by `get_mut`: the place behind it was not proved to be the slice's.
             if place < answers.len() {
                 answers[place] = answer;
             }

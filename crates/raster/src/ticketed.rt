@@ -17,6 +17,25 @@ use list::List;
 use message::message::Message;
 use trail::entry::Entry;
 
+impl Ticket {
+    // A refusal hands the ticket back.
+    fn spent_by<R>(self, answer: Result<R, Fault>) -> Result<R, (Fault, Ticket)>
+        ensures answer { refusal result ≡ answer }
+        ensures ticket { IfErr result (λ e. e.1 ≡ self) }
+    {
+        match answer {
+            Err(fault) => Err((fault, self)),
+            Ok(told) => {
+                let Ticket {
+                    processor: _,
+                    device: _,
+                } = self;
+                Ok(told)
+            }
+        }
+    }
+}
+
 impl<A: Device, B: Device> Ticketed<A, B> {
     pub fn new(board: Board<A, B>) -> Ticketed<A, B>
         ensures { result.board ≡ board }
@@ -50,19 +69,10 @@ impl<A: Device, B: Device> Ticketed<A, B> {
         ensures step { (told (refusal result), world A.Device.state B.Device.state self.new.board messages.new trail.new) ≡ step A.Device.meaning B.Device.meaning (Collect ticket.processor ticket.device) (world A.Device.state B.Device.state self.old.board messages.old trail.old) }
         ensures ticket { IfErr result (λ e. e.1 ≡ ticket) }
     {
-        match self
+        let answer = self
             .board
-            .collect(messages, trail, ticket.processor, ticket.device)
-        {
-            Err(fault) => Err((fault, ticket)),
-            Ok(word) => {
-                let Ticket {
-                    processor: _,
-                    device: _,
-                } = ticket;
-                Ok(word)
-            }
-        }
+            .collect(messages, trail, ticket.processor, ticket.device);
+        ticket.spent_by(answer)
     }
 
     /// Lets the word go, and spends the ticket.
@@ -75,19 +85,10 @@ impl<A: Device, B: Device> Ticketed<A, B> {
         ensures step { (done (refusal result), world A.Device.state B.Device.state self.new.board messages.new trail.new) ≡ step A.Device.meaning B.Device.meaning (GiveUp ticket.processor ticket.device) (world A.Device.state B.Device.state self.old.board messages.old trail.old) }
         ensures ticket { IfErr result (λ e. e.1 ≡ ticket) }
     {
-        match self
+        let answer = self
             .board
-            .give_up(messages, trail, ticket.processor, ticket.device)
-        {
-            Err(fault) => Err((fault, ticket)),
-            Ok(()) => {
-                let Ticket {
-                    processor: _,
-                    device: _,
-                } = ticket;
-                Ok(())
-            }
-        }
+            .give_up(messages, trail, ticket.processor, ticket.device);
+        ticket.spent_by(answer)
     }
 
     pub fn load(

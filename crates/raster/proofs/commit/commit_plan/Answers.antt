@@ -1,7 +1,7 @@
 use Rattle.std.proofs.Common.{ℕ, ◌++◌, length, sym, ap, ◌∙◌, arith, rules}
 use Rattle.bridge.specs.Deeds.{outcome_of}
 use Rattle.bridge.specs.States.{view}
-use Rattle.bridge.specs.declared.perform.Outcome.{Outcome}
+use Rattle.bridge.specs.Deeds.{Outcome}
 use Rattle.bridge.specs.declared.plan.Plan.{Plan}
 use Rattle.list.specs.Contents.{contents, room}
 use Rattle.message.specs.Reactions.{sent, sent_count}
