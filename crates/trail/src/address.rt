@@ -5,7 +5,7 @@ ghost use Rattle.trail.specs.Addresses.{address_of, covers, value_at, has_word, 
 
 use crate::entry::Entry;
 
-#[derive(Clone, Copy)]
+#[derive(Clone, Copy, Debug, PartialEq, Eq)]
 pub struct Address {
     pub space: u32,
     pub word: u64,

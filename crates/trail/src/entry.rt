@@ -5,7 +5,7 @@ use ordering::operation::{Operation, Words};
 use ordering::stamp::Stamp;
 
 /// Word operations use the first value; the others are 0.
-#[derive(Clone, Copy)]
+#[derive(Clone, Copy, Debug, PartialEq, Eq)]
 pub struct Entry {
     pub party: u32,
     pub sequence: u32,

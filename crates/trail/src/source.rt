@@ -8,7 +8,7 @@ use crate::entry::Entry;
 use ordering::stamp::Stamp;
 
 /// What `source` was asked for is not there: both are arguments outside their range.
-#[derive(Clone, Copy, PartialEq, Eq)]
+#[derive(Clone, Copy, Debug, PartialEq, Eq)]
 pub enum SourceFault {
     NoRead,
     NoWord,
@@ -46,7 +46,7 @@ impl Entry {
     fn candidate(&self, entry: usize, address: Address, reader: Stamp) -> Option<Candidate>
         ensures { result ≡ candidate address reader entry self.now }
     {
-        if self.operation.is_write() && self.covers(address) && self.stamp.is_below(reader) {
+        if self.operation.is_write() && self.covers(address) && self.stamp < reader {
             return Some(Candidate {
                 entry,
                 value: self.value_at(address),
@@ -61,16 +61,10 @@ impl Entry {
 fn later(first: Option<Candidate>, second: Option<Candidate>) -> Option<Candidate>
     ensures { result ≡ later first second }
 {
-    let Some(one) = first else {
-        return second;
-    };
-    let Some(other) = second else {
-        return first;
-    };
-    if one.stamp.is_below(other.stamp) {
-        second
-    } else {
-        first
+    match (first, second) {
+        (Some(one), Some(other)) if one.stamp < other.stamp => second,
+        (None, _) => second,
+        _ => first,
     }
 }
 
@@ -88,20 +82,15 @@ fn latest(trail: &[Entry], address: Address, reader: Stamp) -> Option<Candidate>
 pub fn source(trail: &[Entry], entry: usize, word: u32) -> Result<Option<(usize, u32)>, SourceFault>
     ensures { result ≡ source_of trail.now entry word }
 {
-    if entry >= trail.len() {
-        return Err(SourceFault::NoRead);
-    }
-    let read = trail[entry];
+    let read = trail.get(entry).ok_or(SourceFault::NoRead)?;
     if !read.operation.is_read() {
         return Err(SourceFault::NoRead);
     }
     if !read.has_word(word) {
         return Err(SourceFault::NoWord);
     }
-    match latest(trail, read.address(word), read.stamp) {
-        None => Ok(None),
-        Some(found) => Ok(Some((found.entry, found.value))),
-    }
+    let latest = latest(trail, read.address(word), read.stamp);
+    Ok(latest.map(|found| (found.entry, found.value)))
 }
 
 /// A source is a write that covers the address, below the reader and with no greater such write, the first of equal
@@ -114,7 +103,6 @@ pub fn sources_are_latest()
 mod tests {
     use super::*;
     use ordering::operation::{Operation, Words};
-    use std::test::Fail;
 
     fn entry(operation: Operation, place: u32, value: u32, global: u64) -> Entry {
         let values = Words::one(value);
@@ -135,28 +123,20 @@ mod tests {
     }
 
     #[test]
-    fn the_greatest_stamp_below_is_the_source(rt: HostRuntime) -> Result<(), Fail> {
+    fn the_greatest_stamp_below_is_the_source(rt: HostRuntime) {
         let older = entry(Operation::St, 4, 7, 2);
         let newer = entry(Operation::StBlk, 1, 8, 3);
         let read = entry(Operation::Ld, 4, 7, 5);
         let trail = [newer, older, read];
-        let Ok(Some((number, value))) = source(&trail, 2, 0) else {
-            return Err(Fail::new("no source"));
-        };
-        assert_eq!(rt; number, 0);
-        assert_eq!(rt; value, 8);
-        assert!(rt; source(&trail, 2, 1).is_err() && source(&trail, 0, 0).is_err());
-        Ok(())
+        assert_eq!(rt; source(&trail, 2, 0), Ok(Some((0, 8))));
+        assert_eq!(rt; source(&trail, 2, 1), Err(SourceFault::NoWord));
+        assert_eq!(rt; source(&trail, 0, 0), Err(SourceFault::NoRead));
     }
 
     #[test]
-    fn a_block_past_the_last_word_is_another_word(rt: HostRuntime) -> Result<(), Fail> {
+    fn a_block_past_the_last_word_is_another_word(rt: HostRuntime) {
         let far = entry(Operation::StBlk, 0x4000_0000, 9, 1);
         let read = entry(Operation::Ld, 0, 0, 2);
-        let Ok(none) = source(&[far, read], 1, 0) else {
-            return Err(Fail::new("refused"));
-        };
-        assert!(rt; none.is_none());
-        Ok(())
+        assert_eq!(rt; source(&[far, read], 1, 0), Ok(None));
     }
 }
