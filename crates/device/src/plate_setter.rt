@@ -23,7 +23,7 @@ const DONE: u32 = 1;
 #[derive(Clone, Copy)]
 pub struct PlateSetter {
     words: [u32; 12],
-    sweep: Sweep,
+    sweep: Option<Sweep>,
 }
 
 impl PlateSetter {
@@ -33,7 +33,7 @@ impl PlateSetter {
     {
         PlateSetter {
             words: [0; 12],
-            sweep: Sweep::Idle,
+            sweep: None,
         }
     }
 }
@@ -53,8 +53,7 @@ impl Device for PlateSetter {
     }
 
     fn wish(&self) -> Option<Wish> {
-        match self.sweep.stage() {
-            Stage::Over => None,
+        match self.sweep?.stage() {
             Stage::Block(block) => Some(Wish::block(Operation::LdBlk, block, Words::ZERO)),
             Stage::Interrupt => Some(Wish::interrupt(self.words[PROCESSOR], DONE)),
         }
@@ -79,7 +78,7 @@ impl Device for PlateSetter {
     }
 
     fn accepted(&mut self, _word: u32) {
-        self.sweep = self.sweep.advanced();
+        self.sweep = self.sweep.and_then(Sweep::advanced);
     }
 
     fn landed(&mut self, _block: u32, _words: Words) {}

@@ -25,7 +25,7 @@ const DONE: u32 = 2;
 #[derive(Clone, Copy)]
 pub struct Scanner {
     words: [u32; 8],
-    sweep: Sweep,
+    sweep: Option<Sweep>,
 }
 
 impl Scanner {
@@ -35,7 +35,7 @@ impl Scanner {
     {
         Scanner {
             words: [0; 8],
-            sweep: Sweep::Idle,
+            sweep: None,
         }
     }
 }
@@ -69,12 +69,12 @@ impl Device for Scanner {
     }
 
     fn wish(&self) -> Option<Wish> {
-        match self.sweep.stage() {
-            Stage::Over => None,
-            Stage::Block(block) => {
-                let row = row_from(self.words[ROW]);
-                Some(Wish::block(Operation::StBlk, block, row))
-            }
+        match self.sweep?.stage() {
+            Stage::Block(block) => Some(Wish::block(
+                Operation::StBlk,
+                block,
+                row_from(self.words[ROW]),
+            )),
             Stage::Interrupt => Some(Wish::interrupt(self.words[PROCESSOR], DONE)),
         }
     }
@@ -98,7 +98,7 @@ impl Device for Scanner {
     }
 
     fn accepted(&mut self, _word: u32) {
-        self.sweep = self.sweep.advanced();
+        self.sweep = self.sweep.and_then(Sweep::advanced);
     }
 
     fn landed(&mut self, _block: u32, _words: Words) {}
