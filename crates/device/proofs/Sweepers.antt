@@ -1,44 +1,31 @@
--- The two devices, and the plate setter behind its window, follow their sweep.
+-- Sweeping devices, and the plate setter behind its window, follow their sweep.
 use Rattle.std.proofs.Common.{◌≡◌, ℕ, ◌+◌, ◌<◌, false, eqb, List, Some, None, Option, get_or, drop, refl, ap, ◌∙◌, arith, get_or-drop, get_or-take}
-use Rattle.std.proofs.lemmas.Bool.{ne_eqb}
-use Rattle.device.specs.declared.plate_setter.PlateSetter.{PlateSetter}
-use Rattle.device.specs.declared.scanner.Scanner.{Scanner}
+use Rattle.std.proofs.lemmas.Bool.{eq-eqb, ne_eqb}
 use Rattle.device.specs.declared.sweep.Stage.{Stage}
 use Rattle.device.specs.declared.sweep.Stage.TheVariants.{Block, Interrupt}
 use Rattle.device.specs.declared.sweep.Sweep.{Sweep}
+use Rattle.device.specs.declared.sweeper.Sweeper.{Sweeper}
 use Rattle.device.specs.declared.window.Window.{Window}
-use Rattle.device.specs.Courses.{fetching, storing, last_wish, PlateSetterSweeps, ScannerSweeps, WindowedPlateSetterSweeps}
-use Rattle.device.specs.Plates.{plate_meaning}
-use Rattle.device.specs.Scanners.{scanner_meaning}
+use Rattle.device.specs.Courses.{Sweeps, WindowedPlateSetterSweeps}
+use Rattle.device.specs.Plates.{PlateSetter, fetching, plate_meaning}
+use Rattle.device.specs.Sweepers.{sweeper_meaning}
 use Rattle.device.specs.Sweeps.{commanded, went_on, stage_of, wished_at}
+use Rattle.device.specs.Tasks.{Task, last_wish}
 use Rattle.device.specs.Windows.{window, over, window_words, window_meaning, shown, moved, moved_wish}
 use Rattle.device.proofs.Turns.{sweeps, wish_at}
 
--- Plain devices are at the sweep that they hold.
-abbrev plate_at : Option Sweep → PlateSetter → Type 0
-plate_at x s = s.sweep ≡ x
+-- A sweeping device is at the sweep that it holds.
+abbrev sweeper_at : {J : Type 0} {n : ℕ} → Option Sweep → Sweeper J n → Type 0
+sweeper_at x s = s.sweep ≡ x
 
-pub plate_setter_sweeps : PlateSetterSweeps
-plate_setter_sweeps = sweeps plate_meaning (λ s. s) (fetching 4) plate_at (record {
-  starts = λ s v. refl;
+pub sweeper_sweeps : {J : Type 0} {n : ℕ} (t : Task) → Sweeps (sweeper_meaning {J = J} {n = n} t) (λ s. s) t
+sweeper_sweeps t = sweeps (sweeper_meaning t) (λ s. s) t sweeper_at (record {
+  starts = λ s v. rw (eq-eqb t.command t.command refl);
   reading = λ x s p h. h;
-  writing = λ x s p v other h. rw (ne_eqb p 4 other) h;
+  writing = λ x s p v other h. rw (ne_eqb p t.command other) h;
   accepted = λ x s w h. ap went_on h;
   landed = λ x s b ws h. h;
-  wish = λ x s h. ap (wish_at (fetching 4) s.words) h;
-})
-
-abbrev scanner_at : Option Sweep → Scanner → Type 0
-scanner_at x s = s.sweep ≡ x
-
-pub scanner_sweeps : ScannerSweeps
-scanner_sweeps = sweeps scanner_meaning (λ s. s) storing scanner_at (record {
-  starts = λ s v. refl;
-  reading = λ x s p h. h;
-  writing = λ x s p v other h. rw (ne_eqb p 0 other) h;
-  accepted = λ x s w h. ap went_on h;
-  landed = λ x s b ws h. h;
-  wish = λ x s h. ap (wish_at storing s.words) h;
+  wish = λ x s h. ap (wish_at t s.words.at) h;
 })
 
 -- The window shows word 4 + p at p, and hands on the wishes of a sweep.
@@ -63,8 +50,8 @@ record WindowAt (x : Option Sweep) (w : Window PlateSetter) : Type 0 where
 
 starts_behind : (s : PlateSetter) (v : ℕ) →
     (plate_meaning.writing s 4 v).sweep
-    ≡ commanded v (get_or (shown 4 8 s.words) 1 0) (get_or (shown 4 8 s.words) 2 0)
-starts_behind s v = rw (← seen s.words 1 5 (omega arith) refl, ← seen s.words 2 6 (omega arith) refl)
+    ≡ commanded v (get_or (shown 4 8 s.words.at) 1 0) (get_or (shown 4 8 s.words.at) 2 0)
+starts_behind s v = rw (← seen s.words.at 1 5 (omega arith) refl, ← seen s.words.at 2 6 (omega arith) refl)
 
 writes_behind : (x : Option Sweep) (w : Window PlateSetter) (p v : ℕ) → (p ≡ 0 → ⊥) → WindowAt x w →
     (plate_meaning.writing w.device (w.first + p) v).sweep ≡ x
@@ -76,7 +63,7 @@ writes_behind x w p v other h =
 wishes_behind : (x : Option Sweep) (w : Window PlateSetter) → WindowAt x w →
     (window_meaning plate_meaning).wish w ≡ wish_at (fetching 0) (window_words plate_meaning w) x
 wishes_behind x w h =
-    let ws = w.device.words in
+    let ws = w.device.words.at in
     let vs = window_words plate_meaning w in
     let e : get_or ws 7 0 ≡ get_or vs 3 0 = rw (h.first_four, h.size_eight) (seen ws 3 7 (omega arith) refl) in
     handed_on w.first _ ws vs e w.device.sweep

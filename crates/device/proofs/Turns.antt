@@ -6,9 +6,10 @@ use Rattle.std.specs.List.{AllByRecursion as All}
 use Rattle.ordering.specs.declared.operation.Words.{Words}
 use Rattle.device.specs.declared.meaning.Wish.{Wish}
 use Rattle.device.specs.declared.sweep.Sweep.{Sweep}
-use Rattle.device.specs.Courses.{Task, due, first_block, block_count, last_wish, Leaves, told, Sweeps}
+use Rattle.device.specs.Courses.{due, Leaves, told, Sweeps}
 use Rattle.device.specs.Events.{Event, reads, writes, accepts, lands, follow, after, accepted_in}
 use Rattle.device.specs.Meaning.{Meaning}
+use Rattle.device.specs.Tasks.{Task, first_block, block_count, last_wish}
 use Rattle.device.specs.Sweeps.{sweep, commanded, went_on, wished}
 
 -- A sweep by itself.
