@@ -1,83 +1,75 @@
--- The two devices, and the plate setter behind its window, follow their sweep.
-use Rattle.std.proofs.Common.{◌≡◌, ℕ, ◌+◌, ◌<◌, false, eqb, List, get_or, drop, refl, ap, ◌∙◌, arith, get_or-drop, get_or-take}
-use Rattle.std.proofs.lemmas.Bool.{ne_eqb}
-use Rattle.device.specs.declared.plate_setter.PlateSetter.{PlateSetter}
-use Rattle.device.specs.declared.scanner.Scanner.{Scanner}
+-- Sweeping devices, and the plate setter behind its window, follow their sweep.
+use Rattle.std.proofs.Common.{◌≡◌, ℕ, ◌+◌, ◌<◌, false, eqb, List, Some, None, Option, get_or, drop, refl, ap, ◌∙◌, arith, get_or-drop, get_or-take}
+use Rattle.std.proofs.lemmas.Bool.{eq-eqb, ne_eqb}
 use Rattle.device.specs.declared.sweep.Stage.{Stage}
-use Rattle.device.specs.declared.sweep.Stage.TheVariants.{Over, Block, Interrupt}
+use Rattle.device.specs.declared.sweep.Stage.TheVariants.{Block, Interrupt}
 use Rattle.device.specs.declared.sweep.Sweep.{Sweep}
+use Rattle.device.specs.declared.sweeper.Sweeper.{Sweeper}
 use Rattle.device.specs.declared.window.Window.{Window}
-use Rattle.device.specs.Courses.{fetching, storing, PlateSetterSweeps, ScannerSweeps, WindowedPlateSetterSweeps}
-use Rattle.device.specs.Plates.{plate_meaning}
-use Rattle.device.specs.Scanners.{scanner_meaning}
-use Rattle.device.specs.Sweeps.{commanded, advanced, stage_of}
-use Rattle.device.specs.Windows.{window, over, window_words, window_meaning, shown, moved_wish}
+use Rattle.device.specs.Courses.{Sweeps, WindowedPlateSetterSweeps}
+use Rattle.device.specs.Plates.{PlateSetter, fetching, plate_meaning}
+use Rattle.device.specs.Sweepers.{sweeper_meaning}
+use Rattle.device.specs.Sweeps.{commanded, went_on, stage_of, wished_at}
+use Rattle.device.specs.Tasks.{Task, last_wish}
+use Rattle.device.specs.Windows.{window, over, window_words, window_meaning, shown, moved, moved_wish}
 use Rattle.device.proofs.Turns.{sweeps, wish_at}
 
--- Plain devices are at the sweep that they hold.
-abbrev plate_at : Sweep → PlateSetter → Type 0
-plate_at x s = s.sweep ≡ x
+-- A sweeping device is at the sweep that it holds.
+abbrev sweeper_at : {J : Type 0} {n : ℕ} → Option Sweep → Sweeper J n → Type 0
+sweeper_at x s = s.sweep ≡ x
 
-pub plate_setter_sweeps : PlateSetterSweeps
-plate_setter_sweeps = sweeps plate_meaning (λ s. s) (fetching 4) plate_at (record {
-  starts = λ s v. refl;
+pub sweeper_sweeps : {J : Type 0} {n : ℕ} (t : Task) → Sweeps (sweeper_meaning {J = J} {n = n} t) (λ s. s) t
+sweeper_sweeps t = sweeps (sweeper_meaning t) (λ s. s) t sweeper_at (record {
+  starts = λ s v. rw (eq-eqb t.command t.command refl);
   reading = λ x s p h. h;
-  writing = λ x s p v other h. rw (ne_eqb p 4 other) h;
-  accepted = λ x s w h. ap advanced h;
+  writing = λ x s p v other h. rw (ne_eqb p t.command other) h;
+  accepted = λ x s w h. ap went_on h;
   landed = λ x s b ws h. h;
-  wish = λ x s h. ap (λ (y : Sweep). wish_at (fetching 4) s.words (stage_of y)) h;
-})
-
-abbrev scanner_at : Sweep → Scanner → Type 0
-scanner_at x s = s.sweep ≡ x
-
-pub scanner_sweeps : ScannerSweeps
-scanner_sweeps = sweeps scanner_meaning (λ s. s) storing scanner_at (record {
-  starts = λ s v. refl;
-  reading = λ x s p h. h;
-  writing = λ x s p v other h. rw (ne_eqb p 0 other) h;
-  accepted = λ x s w h. ap advanced h;
-  landed = λ x s b ws h. h;
-  wish = λ x s h. ap (λ (y : Sweep). wish_at storing s.words (stage_of y)) h;
+  wish = λ x s h. ap (wish_at t s.words.at) h;
 })
 
 -- The window shows word 4 + p at p, and hands on the wishes of a sweep.
 seen : (ws : List ℕ) (p q : ℕ) → p < 8 → q ≡ 4 + p → get_or ws q 0 ≡ get_or (shown 4 8 ws) p 0
 seen ws p q h e = rw (e, get_or-take 8 (drop 4 ws) p 0 h, get_or-drop 4 ws p 0)
 
-handed_on : (first count : ℕ) (ws vs : List ℕ) → get_or ws 7 0 ≡ get_or vs 3 0 → (x : Stage) →
-    moved_wish first count (wish_at (fetching 4) ws x) ≡ wish_at (fetching 0) vs x
-handed_on first count ws vs e Over = refl
-handed_on first count ws vs e (Block b) = refl
-handed_on first count ws vs e Interrupt = rw e
+handed_at : (first count : ℕ) (ws vs : List ℕ) → get_or ws 7 0 ≡ get_or vs 3 0 → (y : Stage) →
+    moved first count (wished_at ((fetching 4).each ws) (last_wish (fetching 4) ws) y)
+    ≡ wished_at ((fetching 0).each vs) (last_wish (fetching 0) vs) y
+handed_at first count ws vs e (Block _) = refl
+handed_at first count ws vs e Interrupt = rw e
 
-record WindowAt (x : Sweep) (w : Window PlateSetter) : Type 0 where
+handed_on : (first count : ℕ) (ws vs : List ℕ) → get_or ws 7 0 ≡ get_or vs 3 0 → (x : Option Sweep) →
+    moved_wish first count (wish_at (fetching 4) ws x) ≡ wish_at (fetching 0) vs x
+handed_on first count ws vs e None = refl
+handed_on first count ws vs e (Some x) = ap Some (handed_at first count ws vs e (stage_of x))
+
+record WindowAt (x : Option Sweep) (w : Window PlateSetter) : Type 0 where
   pub first_four : w.first ≡ 4
   pub size_eight : w.size ≡ 8
   pub below : w.device.sweep ≡ x
 
 starts_behind : (s : PlateSetter) (v : ℕ) →
     (plate_meaning.writing s 4 v).sweep
-    ≡ commanded v (get_or (shown 4 8 s.words) 1 0) (get_or (shown 4 8 s.words) 2 0)
-starts_behind s v = rw (← seen s.words 1 5 (omega arith) refl, ← seen s.words 2 6 (omega arith) refl)
+    ≡ commanded v (get_or (shown 4 8 s.words.at) 1 0) (get_or (shown 4 8 s.words.at) 2 0)
+starts_behind s v = rw (← seen s.words.at 1 5 (omega arith) refl, ← seen s.words.at 2 6 (omega arith) refl)
 
-writes_behind : (x : Sweep) (w : Window PlateSetter) (p v : ℕ) → (p ≡ 0 → ⊥) → WindowAt x w →
+writes_behind : (x : Option Sweep) (w : Window PlateSetter) (p v : ℕ) → (p ≡ 0 → ⊥) → WindowAt x w →
     (plate_meaning.writing w.device (w.first + p) v).sweep ≡ x
 writes_behind x w p v other h =
     let e = h.first_four in
     let apart : eqb (w.first + p) 4 ≡ false = ne_eqb (w.first + p) 4 (λ same. other (omega arith)) in
     rw apart h.below
 
-wishes_behind : (x : Sweep) (w : Window PlateSetter) → WindowAt x w →
-    (window_meaning plate_meaning).wish w ≡ wish_at (fetching 0) (window_words plate_meaning w) (stage_of x)
+wishes_behind : (x : Option Sweep) (w : Window PlateSetter) → WindowAt x w →
+    (window_meaning plate_meaning).wish w ≡ wish_at (fetching 0) (window_words plate_meaning w) x
 wishes_behind x w h =
-    let ws = w.device.words in
+    let ws = w.device.words.at in
     let vs = window_words plate_meaning w in
     let e : get_or ws 7 0 ≡ get_or vs 3 0 = rw (h.first_four, h.size_eight) (seen ws 3 7 (omega arith) refl) in
-    handed_on w.first _ ws vs e (stage_of w.device.sweep)
-    ∙ ap (λ (y : Sweep). wish_at (fetching 0) vs (stage_of y)) h.below
+    handed_on w.first _ ws vs e w.device.sweep
+    ∙ ap (wish_at (fetching 0) vs) h.below
 
-kept : (x y : Sweep) (w : Window PlateSetter) (s : PlateSetter) → WindowAt x w → s.sweep ≡ y → WindowAt y (over w s)
+kept : (x y : Option Sweep) (w : Window PlateSetter) (s : PlateSetter) → WindowAt x w → s.sweep ≡ y → WindowAt y (over w s)
 kept x y w s h e = record { first_four = h.first_four; size_eight = h.size_eight; below = e }
 
 pub windowed_plate_setter_sweeps : WindowedPlateSetterSweeps
@@ -85,7 +77,7 @@ windowed_plate_setter_sweeps = sweeps (window_meaning plate_meaning) (λ s. wind
   starts = λ s v. record { first_four = refl; size_eight = refl; below = starts_behind s v };
   reading = λ x w p h. kept x x w w.device h h.below;
   writing = λ x w p v other h. kept x x w _ h (writes_behind x w p v other h);
-  accepted = λ x w v h. kept x (advanced x) w _ h (ap advanced h.below);
+  accepted = λ x w v h. kept x (went_on x) w _ h (ap went_on h.below);
   landed = λ x w b ws h. kept x x w w.device h h.below;
   wish = wishes_behind;
 })

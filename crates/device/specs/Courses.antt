@@ -1,34 +1,13 @@
 -- Whole sweeps: which wish a device has once so many were accepted, whatever else was done to it meanwhile.
-use Rattle.std.specs.Prelude.{◌≡◌, ℕ, ◌+◌, ◌%◌, ◌^◌, cond, List, Some, None, Option, ◌==◌, ◌≢◌, nat_lt, slice_index}
+use Rattle.std.specs.Prelude.{◌≡◌, ℕ, ◌+◌, ◌%◌, ◌^◌, cond, List, Some, None, Option, ◌==◌, ◌≢◌, nat_lt}
 use Rattle.std.specs.List.{AllByRecursion}
-use Rattle.ordering.specs.declared.operation.Operation.TheVariants.{LdBlk, StBlk}
-use Rattle.ordering.specs.Words.{no_words}
 use Rattle.device.specs.declared.meaning.Wish.{Wish}
-use Rattle.device.specs.declared.plate_setter.PlateSetter.{PlateSetter}
-use Rattle.device.specs.declared.scanner.Scanner.{Scanner}
 use Rattle.device.specs.Events.{Event, reads, writes, accepts, lands, after, accepted_in}
 use Rattle.device.specs.Meaning.{Meaning}
-use Rattle.device.specs.Plates.{plate_meaning}
-use Rattle.device.specs.Scanners.{scanner_meaning, row_from}
+use Rattle.device.specs.Plates.{PlateSetter, fetching, plate_meaning}
+use Rattle.device.specs.Scanners.{Scanner, storing, scanner_meaning}
+use Rattle.device.specs.Tasks.{Task, first_block, block_count, last_wish}
 use Rattle.device.specs.Windows.{window, window_meaning}
-use Rattle.device.specs.Wishes.{block_wish, interrupt_wish}
-
--- What a device does at a sweep: a wish for each block, and an interrupt with a value. The words that tell it
--- stand from the command's place: command, first block, count, processor.
-pub record Task : Type 0 where
-  pub command : ℕ
-  pub each : List ℕ → ℕ → Wish
-  pub value : ℕ
-
-abbrev pub first_block : Task → List ℕ → ℕ
-first_block t ws = slice_index ws (t.command + 1)
-
-abbrev pub block_count : Task → List ℕ → ℕ
-block_count t ws = slice_index ws (t.command + 2)
-
--- The interrupt, to the processor that the words name when it is told.
-abbrev pub last_wish : Task → List ℕ → Wish
-last_wish t ws = interrupt_wish (slice_index ws (t.command + 3)) t.value
 
 -- Of n blocks from f, once k wishes were accepted: block f + k while k is below n, then the interrupt, then none.
 abbrev pub due : Task → ℕ → ℕ → ℕ → List ℕ → Option Wish
@@ -56,12 +35,6 @@ pub record Sweeps {P S : Type 0} (m : Meaning S) (at : P → S) (t : Task) : Typ
       (m.words (told m t (at p) 1 es))
   pub stopped : (p : P) (v : ℕ) → (v ≢ 1) → (es : List Event) → AllByRecursion (Leaves t.command) es →
       m.wish (told m t (at p) v es) ≡ None
-
-abbrev pub fetching : ℕ → Task
-fetching c = record { command = c; each = λ ws b. block_wish LdBlk b no_words; value = 1 }
-
-abbrev pub storing : Task
-storing = record { command = 0; each = λ ws b. block_wish StBlk b (row_from (slice_index ws 4)); value = 2 }
 
 abbrev pub PlateSetterSweeps : Type 0
 PlateSetterSweeps = Sweeps {P = PlateSetter} plate_meaning (λ s. s) (fetching 4)

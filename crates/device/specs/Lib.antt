@@ -3,7 +3,10 @@ pub mod Events
 pub mod Meaning
 pub mod Plates
 pub mod Scanners
+pub mod Sweepers
 pub mod Sweeps
+pub mod Tables
+pub mod Tasks
 pub mod Windows
 pub mod Wishes
 pub mod Showing

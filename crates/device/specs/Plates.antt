@@ -1,39 +1,27 @@
 -- The plate setter's meaning. From word 4: command, first block, count, processor.
-use Rattle.std.specs.Prelude.{ℕ, cond, replicate, Option, ◌==◌, slice_index, slice_set}
+use Rattle.std.specs.Prelude.{ℕ, List}
 use Rattle.ordering.specs.declared.operation.Operation.TheVariants.{LdBlk}
 use Rattle.ordering.specs.Words.{no_words}
 use Rattle.device.specs.declared.meaning.Wish.{Wish}
-use Rattle.device.specs.declared.plate_setter.PlateSetter.{PlateSetter}
-use Rattle.device.specs.declared.sweep.Sweep.TheVariants.{Idle}
+use Rattle.device.specs.declared.plate_setter.Fetching.{Fetching}
+use Rattle.device.specs.declared.sweeper.Sweeper.{Sweeper}
 use Rattle.device.specs.Meaning.{Meaning}
-use Rattle.device.specs.Sweeps.{commanded, advanced, stage_of, wished}
-use Rattle.device.specs.Wishes.{block_wish, interrupt_wish}
+use Rattle.device.specs.Sweepers.{blank, sweeper_meaning}
+use Rattle.device.specs.Tasks.{Task, task}
+use Rattle.device.specs.Wishes.{block_wish}
+
+abbrev pub PlateSetter : Type 0
+PlateSetter = Sweeper Fetching 12
 
 abbrev pub blank_plate : PlateSetter
-blank_plate = record { words = replicate 12 0; sweep = Idle }
+blank_plate = blank 12
 
 -- Each block is read, and then the processor interrupted with value 1.
-abbrev pub plate_wish : PlateSetter → Option Wish
-plate_wish s =
-    wished (λ b. block_wish LdBlk b no_words)
-    (interrupt_wish (slice_index s.words 7) 1)
-    (stage_of s.sweep)
+abbrev pub fetched : List ℕ → ℕ → Wish
+fetched ws b = block_wish LdBlk b no_words
 
-abbrev pub plate_writing : PlateSetter → ℕ → ℕ → PlateSetter
-plate_writing s p v = record {
-  words = slice_set s.words p v;
-  sweep = cond (p == 4) (commanded v (slice_index s.words 5) (slice_index s.words 6)) s.sweep;
-}
-
-abbrev pub plate_accepted : PlateSetter → PlateSetter
-plate_accepted s = record { words = s.words; sweep = advanced s.sweep }
+abbrev pub fetching : ℕ → Task
+fetching c = task c fetched 1
 
 abbrev pub plate_meaning : Meaning PlateSetter
-plate_meaning = record {
-  words = λ s. s.words;
-  wish = plate_wish;
-  reading = λ s p. s;
-  writing = plate_writing;
-  accepted = λ s w. plate_accepted s;
-  landed = λ s b ws. s;
-}
+plate_meaning = sweeper_meaning (fetching 4)

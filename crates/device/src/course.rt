@@ -1,28 +1,42 @@
 //! What devices do over many calls: words are what was written to them, and sweeps come in turn.
 //! The functions do nothing; what they promise is proved.
 
+ghost use Rattle.std.specs.Prelude.{◌≡◌};
 ghost use Rattle.device.specs.Courses.{PlateSetterSweeps, ScannerSweeps, WindowedPlateSetterSweeps};
 ghost use Rattle.device.specs.Events.{WordsAsWritten};
+ghost use Rattle.device.specs.Plates.{plate_meaning};
+ghost use Rattle.device.specs.Scanners.{scanner_meaning};
+ghost use Rattle.device.specs.Windows.{window_meaning};
 
 use crate::meaning::Device;
+use crate::plate_setter::PlateSetter;
+use crate::scanner::Scanner;
+use crate::window::Window;
 
 /// Over any calls the words of any device are what was written to them.
+#[tactic(auto, using(crate::proofs::Written::words_as_written))]
 pub fn words_are_as_written<D: Device>()
     ensures { WordsAsWritten D.Device.meaning }
 {}
 
 /// After command 1 the plate setter wishes for LDblk of each block in turn, for the INT with value 1, and for
 /// nothing; after any other command for nothing.
+#[tactic(auto, using(crate::proofs::Sweepers::sweeper_sweeps))]
 pub fn plate_setter_sweeps()
-    ensures { PlateSetterSweeps }
+    ensures meant { ⟦<PlateSetter as Device>⟧.meaning ≡ plate_meaning }
+    ensures sweeps { PlateSetterSweeps }
 {}
 
 /// The same of the scanner, with STblk of its row and value 2.
+#[tactic(auto, using(crate::proofs::Sweepers::sweeper_sweeps))]
 pub fn scanner_sweeps()
-    ensures { ScannerSweeps }
+    ensures meant { ⟦<Scanner as Device>⟧.meaning ≡ scanner_meaning }
+    ensures sweeps { ScannerSweeps }
 {}
 
 /// The same of the plate setter behind its window.
+#[tactic(auto, using(crate::proofs::Sweepers::windowed_plate_setter_sweeps))]
 pub fn windowed_plate_setter_sweeps()
-    ensures { WindowedPlateSetterSweeps }
+    ensures meant { ⟦<Window<PlateSetter> as Device>⟧.meaning ≡ window_meaning plate_meaning }
+    ensures sweeps { WindowedPlateSetterSweeps }
 {}

@@ -7,4 +7,6 @@ pub mod meaning;
 pub mod plate_setter;
 pub mod scanner;
 mod sweep;
+pub mod sweeper;
+pub mod table;
 pub mod window;

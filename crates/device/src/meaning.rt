@@ -42,7 +42,7 @@ impl Wish {
 }
 
 /// The device has no word at this place.
-#[derive(Clone, Copy)]
+#[derive(Clone, Copy, Debug, PartialEq, Eq)]
 pub struct NoWord {
     pub place: u32,
 }

@@ -2,43 +2,21 @@
 //! The sweep's words stand from word 0 of its 8, and the row's first word after them.
 
 ghost use Rattle.std.specs.Prelude.{◌≡◌};
-ghost use Rattle.device.specs.declared.scanner.Scanner.{Scanner};
-ghost use Rattle.device.specs.Scanners.{scanner_meaning, blank_scanner, row_from};
 ghost use Rattle.std.proofs.Common.{rules};
+ghost use Rattle.device.specs.Scanners.{stored, row_from};
 
-use crate::meaning::{Device, NoWord, Wish, Wishing};
-use crate::sweep::{Stage, Sweep};
+use crate::meaning::Wish;
+use crate::sweeper::{Job, Sweeper};
+use crate::table::Table;
 use ordering::operation::{Operation, Words};
 
-const COMMAND: u32 = 0;
+pub type Scanner = Sweeper<Storing, 8>;
 
-const FIRST_BLOCK: usize = 1;
-
-const BLOCK_COUNT: usize = 2;
-
-const PROCESSOR: usize = 3;
+/// The row is stored to each block, and then the processor interrupted with value 2.
+#[derive(Clone, Copy)]
+pub struct Storing;
 
 const ROW: usize = 4;
-
-const DONE: u32 = 2;
-
-#[derive(Clone, Copy)]
-pub struct Scanner {
-    words: [u32; 8],
-    sweep: Sweep,
-}
-
-impl Scanner {
-    /// All words 0, no wish.
-    pub fn new() -> Scanner
-        ensures { result ≡ blank_scanner }
-    {
-        Scanner {
-            words: [0; 8],
-            sweep: Sweep::Idle,
-        }
-    }
-}
 
 // Four numbers in turn, wrapping at the end of 32 bits.
 fn row_from(word: u32) -> Words
@@ -54,56 +32,24 @@ fn row_from(word: u32) -> Words
     }
 }
 
-impl Device for Scanner {
-    ghost State = { Scanner };
+impl Job<8> for Storing {
+    ghost COMMAND = { 0 };
 
-    ghost state = { λ s. s };
+    const COMMAND: usize = 0;
 
-    ghost meaning = { scanner_meaning };
+    ghost DONE = { 2 };
 
-    ghost lawful = { Prim.search rules };
+    const DONE: u32 = 2;
 
-    fn count(&self) -> u32 {
-        let words: &[u32] = &self.words;
-        words.len() as u32
-    }
+    ghost each = { stored };
 
-    fn wish(&self) -> Option<Wish> {
-        match self.sweep.stage() {
-            Stage::Over => None,
-            Stage::Block(block) => {
-                let row = row_from(self.words[ROW]);
-                Some(Wish::block(Operation::StBlk, block, row))
-            }
-            Stage::Interrupt => Some(Wish::interrupt(self.words[PROCESSOR], DONE)),
-        }
-    }
+    ghost few = { Prim.search rules };
 
-    fn read(&mut self, place: u32) -> Result<u32, NoWord> {
-        if place >= self.count() {
-            return Err(NoWord { place });
-        }
-        Ok(self.words[place as usize])
-    }
+    ghost fits = { Prim.search rules };
 
-    fn write(&mut self, place: u32, value: u32) -> Result<(), NoWord> {
-        if place >= self.count() {
-            return Err(NoWord { place });
-        }
-        if place == COMMAND {
-            self.sweep = Sweep::commanded(value, self.words[FIRST_BLOCK], self.words[BLOCK_COUNT]);
-        }
-        self.words[place as usize] = value;
-        Ok(())
-    }
-
-    fn accepted(&mut self, _word: u32) {
-        self.sweep = self.sweep.advanced();
-    }
-
-    fn landed(&mut self, _block: u32, _words: Words) {}
-}
-
-impl Wishing for Scanner {
     ghost four_words = { Prim.search rules };
+
+    fn wish_at(words: &Table<8>, block: u32) -> Wish {
+        Wish::block(Operation::StBlk, block, row_from(words.at[ROW]))
+    }
 }

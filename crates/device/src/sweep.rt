@@ -3,20 +3,17 @@
 ghost use Rattle.std.specs.Prelude.{◌≡◌};
 ghost use Rattle.device.specs.Sweeps.{commanded, advanced, stage_of};
 
+/// A sweep that was started, and how many of its blocks were accepted.
 #[derive(Clone, Copy)]
-pub enum Sweep {
-    Idle,
-    Running {
-        first: u32,
-        count: u32,
-        position: u32,
-    },
+pub struct Sweep {
+    first: u32,
+    count: u32,
+    position: u32,
 }
 
 /// What a sweep is at.
 #[derive(Clone, Copy)]
 pub enum Stage {
-    Over,
     Block(u32),
     Interrupt,
 }
@@ -25,58 +22,37 @@ impl Sweep {
     /// The command that starts a sweep; any other stops it.
     pub const START: u32 = 1;
 
-    pub fn commanded(command: u32, first: u32, count: u32) -> Sweep
+    pub fn commanded(command: u32, first: u32, count: u32) -> Option<Sweep>
         ensures { result ≡ commanded command first count }
     {
-        if command != Sweep::START {
-            return Sweep::Idle;
-        }
-        Sweep::Running {
+        let started = Sweep {
             first,
             count,
             position: 0,
-        }
+        };
+        (command == Sweep::START).then_some(started)
     }
 
     /// Block numbers wrap at the end of 32 bits.
     pub fn stage(self) -> Stage
         ensures { result ≡ stage_of self }
     {
-        match self {
-            Sweep::Idle => Stage::Over,
-            Sweep::Running {
-                first,
-                count,
-                position,
-            } => {
-                if position < count {
-                    return Stage::Block(first.wrapping_add(position));
-                }
-                Stage::Interrupt
-            }
+        if self.position < self.count {
+            return Stage::Block(self.first.wrapping_add(self.position));
         }
+        Stage::Interrupt
     }
 
-    /// The sweep once what it is at was accepted.
-    pub fn advanced(self) -> Sweep
+    /// The sweep once what it is at was accepted; none after the interrupt.
+    pub fn advanced(self) -> Option<Sweep>
         ensures { result ≡ advanced self }
     {
-        match self {
-            Sweep::Idle => Sweep::Idle,
-            Sweep::Running {
-                first,
-                count,
-                position,
-            } => {
-                if position < count {
-                    return Sweep::Running {
-                        first,
-                        count,
-                        position: position + 1,
-                    };
-                }
-                Sweep::Idle
-            }
+        if self.position < self.count {
+            return Some(Sweep {
+                position: self.position + 1,
+                ..self
+            });
         }
+        None
     }
 }

@@ -9,6 +9,7 @@ use crate::meaning::{Device, NoWord, Wish, Wishing};
 use ordering::operation::{Operation, Words};
 
 /// Where a word stands that the window does not show: past the words of any device.
+// By rule the wish of a hidden word goes out with a place, so it is a number and no `None`.
 const NOT_SHOWN: u32 = 64;
 
 #[derive(Drop)]
@@ -20,8 +21,7 @@ pub struct Window<D> {
 
 // How many words are shown of a device that has `count`.
 fn shown_count(first: u32, size: u32, count: u32) -> u32
-    ensures value { result ≡ min size (count - first) }
-    ensures shown { (ws : List ℕ) → count ≡ length ws → result ≡ length (shown first size ws) }
+    ensures { result ≡ min size (count - first) }
 {
     count.saturating_sub(first).min(size)
 }
@@ -30,21 +30,23 @@ fn shown_count(first: u32, size: u32, count: u32) -> u32
 fn seen_at(first: u32, count: u32, place: u32) -> u32
     ensures { result ≡ seen_at first count place }
 {
-    if place < first || place - first >= count {
-        return NOT_SHOWN;
-    }
-    place - first
+    place
+        .checked_sub(first)
+        .filter(|seen| *seen < count)
+        .unwrap_or(NOT_SHOWN)
 }
 
 // The wish of the device below, with its word moved to where the window shows it.
 fn moved(first: u32, count: u32, wish: Wish) -> Wish
     ensures { result ≡ moved first count wish }
 {
-    let mut moved = wish;
-    if matches!(wish.operation, Operation::LdIo | Operation::StIo) {
-        moved.place = seen_at(first, count, wish.place);
+    match wish.operation {
+        Operation::LdIo | Operation::StIo => Wish {
+            place: seen_at(first, count, wish.place),
+            ..wish
+        },
+        _ => wish,
     }
-    moved
 }
 
 impl<D: Device> Window<D> {
@@ -60,6 +62,7 @@ impl<D: Device> Window<D> {
     }
 
     // Where the device below has a word that is shown.
+    #[tactic(auto, using(crate::specs::Showing::shown_at))]
     fn place_below(&self, place: u32) -> Option<u32>
         ensures { Shows self.now.first self.now.size (D.Device.meaning.words (D.Device.state self.now.device)) place result }
     {
@@ -80,6 +83,7 @@ impl<D: Device> Device for Window<D> {
 
     ghost lawful = { window_laws D.Device.meaning D.Device.lawful };
 
+    #[tactic(auto, using(crate::specs::Showing::length_shown))]
     fn count(&self) -> u32 {
         shown_count(self.first, self.size, self.device.count())
     }
@@ -90,16 +94,12 @@ impl<D: Device> Device for Window<D> {
     }
 
     fn read(&mut self, place: u32) -> Result<u32, NoWord> {
-        let Some(below) = self.place_below(place) else {
-            return Err(NoWord { place });
-        };
+        let below = self.place_below(place).ok_or(NoWord { place })?;
         self.device.read(below)
     }
 
     fn write(&mut self, place: u32, value: u32) -> Result<(), NoWord> {
-        let Some(below) = self.place_below(place) else {
-            return Err(NoWord { place });
-        };
+        let below = self.place_below(place).ok_or(NoWord { place })?;
         self.device.write(below, value)
     }
 

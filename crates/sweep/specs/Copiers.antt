@@ -1,10 +1,11 @@
 -- The copier's meaning: its words and its phase, and nothing of how often it was read.
-use Rattle.std.specs.Prelude.{ℕ, cond, replicate, Some, None, Option, ◌==◌, slice_set}
+use Rattle.std.specs.Prelude.{ℕ, cond, Some, None, Option, ◌==◌}
 use Rattle.ordering.specs.declared.operation.Operation.{Operation}
 use Rattle.ordering.specs.declared.operation.Operation.TheVariants.{LdIo, StIo}
 use Rattle.ordering.specs.Words.{one_word}
 use Rattle.device.specs.declared.meaning.Wish.{Wish}
 use Rattle.device.specs.Meaning.{Meaning}
+use Rattle.device.specs.Tables.{zeros, written}
 use Rattle.sweep.specs.declared.copier.Copier.{Copier}
 use Rattle.sweep.specs.declared.copier.Copying.{Copying}
 use Rattle.sweep.specs.declared.copier.Phase.{Phase}
@@ -14,7 +15,7 @@ abbrev pub copying : Copier → Copying
 copying c = c.copying
 
 abbrev pub blank_copier : Copier
-blank_copier = record { copying = record { words = replicate 3 0; phase = Rest }; reads = 0 }
+blank_copier = record { copying = record { words = zeros 3; phase = Rest }; reads = 0 }
 
 abbrev pub word_wish : Operation → ℕ → ℕ → Wish
 word_wish o p w = record { operation = o; place = p; processor = 0; words = one_word w }
@@ -31,11 +32,11 @@ next_phase (Store v) w = Rest
 
 abbrev pub copier_meaning : Meaning Copying
 copier_meaning = record {
-  words = λ s. s.words;
+  words = λ s. s.words.at;
   wish = λ s. phase_wish s.phase;
   reading = λ s p. s;
   writing = λ s p v. record {
-    words = slice_set s.words p v;
+    words = written s.words p v;
     phase = cond (p == 0) (cond (v == 1) Load Rest) s.phase;
   };
   accepted = λ s w. record { words = s.words; phase = next_phase s.phase w };

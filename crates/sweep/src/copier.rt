@@ -7,6 +7,7 @@ ghost use Rattle.sweep.specs.Copiers.{copier_meaning, blank_copier, copying, wor
 ghost use Rattle.std.proofs.Common.{rules};
 
 use device::meaning::{Device, NoWord, Wish, Wishing};
+use device::table::Table;
 use ordering::operation::{Operation, Words};
 
 const SOURCE: u32 = 1;
@@ -22,7 +23,7 @@ pub enum Phase {
 
 #[derive(Clone, Copy)]
 pub struct Copying {
-    words: [u32; 3],
+    words: Table<3>,
     phase: Phase,
 }
 
@@ -37,7 +38,7 @@ impl Copier {
         ensures { result ≡ blank_copier }
     {
         let copying = Copying {
-            words: [0; 3],
+            words: Table::zeros(),
             phase: Phase::Rest,
         };
         Copier { copying, reads: 0 }
@@ -65,8 +66,7 @@ impl Device for Copier {
     ghost lawful = { Prim.search rules };
 
     fn count(&self) -> u32 {
-        let words: &[u32] = &self.copying.words;
-        words.len() as u32
+        self.copying.words.len() as u32
     }
 
     fn wish(&self) -> Option<Wish> {
@@ -78,21 +78,16 @@ impl Device for Copier {
     }
 
     fn read(&mut self, place: u32) -> Result<u32, NoWord> {
-        if place >= self.count() {
-            return Err(NoWord { place });
-        }
+        let word = self.copying.words.read(place)?;
         self.reads = self.reads.wrapping_add(1);
-        Ok(self.copying.words[place as usize])
+        Ok(word)
     }
 
     fn write(&mut self, place: u32, value: u32) -> Result<(), NoWord> {
-        if place >= self.count() {
-            return Err(NoWord { place });
-        }
+        self.copying.words.write(place, value)?;
         if place == 0 {
             self.copying.phase = if value == 1 { Phase::Load } else { Phase::Rest };
         }
-        self.copying.words[place as usize] = value;
         Ok(())
     }
 

@@ -18,10 +18,10 @@ use std::io;
 use told::Told;
 
 fn report(rt: &impl Print, done: Result<(), NoWord>) -> io::Result<()> {
-    match done {
-        Ok(()) => Ok(()),
-        Err(refused) => println!(rt; "  no word {}", refused.place),
+    if let Err(NoWord { place }) = done {
+        println!(rt; "  no word {place}")?;
     }
+    Ok(())
 }
 
 // Shows and accepts up to `most` wishes.

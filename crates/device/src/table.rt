@@ -1,0 +1,43 @@
+//! The words of a device, by their places.
+
+ghost use Rattle.std.specs.Prelude.{◌≡◌, length};
+ghost use Rattle.device.specs.Tables.{zeros, read_of, written, write_of};
+
+use crate::meaning::NoWord;
+
+#[derive(Clone, Copy, Debug, PartialEq, Eq)]
+pub struct Table<const N: usize> {
+    pub at: [u32; N],
+}
+
+impl<const N: usize> Table<N> {
+    /// All words 0.
+    pub fn zeros() -> Table<N>
+        ensures { result ≡ zeros N }
+    {
+        Table { at: [0; N] }
+    }
+
+    pub fn len(&self) -> usize
+        ensures words { result ≡ length self.now.at }
+        ensures size { result ≡ N }
+    {
+        self.at.as_slice().len()
+    }
+
+    pub fn read(&self, place: u32) -> Result<u32, NoWord>
+        ensures { result ≡ read_of self.now place }
+    {
+        self.at.get(place as usize).copied().ok_or(NoWord { place })
+    }
+
+    pub fn write(&mut self, place: u32, value: u32) -> Result<(), NoWord>
+        ensures exit { self.new ≡ written self.old place value }
+        ensures answer { result ≡ write_of self.old place }
+    {
+        // Of what `get_mut` lends, a proof knows no element afterwards.
+        self.read(place)?;
+        self.at[place as usize] = value;
+        Ok(())
+    }
+}
