@@ -1,10 +1,8 @@
 -- Worked cases, computed: a windowed plate setter and a scanner on a board of two processors with zero memory.
 use Rattle.std.specs.Prelude.{◌≡◌, ℕ, true, List, [], ◌∷◌, replicate, Some, None, Ok, Err, Option, slice_index_or}
-use Rattle.device.specs.Plates.{plate_meaning, blank_plate}
-use Rattle.device.specs.Scanners.{scanner_meaning, blank_scanner}
+use Rattle.device.specs.Plates.{PlateSetter, plate_meaning, blank_plate}
+use Rattle.device.specs.Scanners.{Scanner, scanner_meaning, blank_scanner}
 use Rattle.device.specs.Windows.{window, window_meaning}
-use Rattle.device.specs.declared.plate_setter.PlateSetter.{PlateSetter}
-use Rattle.device.specs.declared.scanner.Scanner.{Scanner}
 use Rattle.device.specs.declared.window.Window.{Window}
 use Rattle.message.specs.Messages.{no_message}
 use Rattle.message.specs.declared.kind.Kind.TheVariants as kind

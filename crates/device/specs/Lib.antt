@@ -2,10 +2,10 @@ pub mod Courses
 pub mod Events
 pub mod Meaning
 pub mod Plates
+pub mod Registers
 pub mod Scanners
 pub mod Sweepers
 pub mod Sweeps
-pub mod Tables
 pub mod Tasks
 pub mod Windows
 pub mod Wishes

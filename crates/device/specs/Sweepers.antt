@@ -4,7 +4,7 @@ use Rattle.device.specs.declared.meaning.Wish.{Wish}
 use Rattle.device.specs.declared.sweeper.Sweeper.{Sweeper}
 use Rattle.device.specs.Meaning.{Meaning}
 use Rattle.device.specs.Sweeps.{commanded, went_on, wished}
-use Rattle.device.specs.Tables.{zeros, written}
+use Rattle.device.specs.Registers.{zeros, written}
 use Rattle.device.specs.Tasks.{Task, first_block, block_count, last_wish}
 
 abbrev pub blank : {J : Type 0} (n : ℕ) → Sweeper J n

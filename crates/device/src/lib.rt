@@ -5,8 +5,8 @@
 pub mod course;
 pub mod meaning;
 pub mod plate_setter;
+pub mod registers;
 pub mod scanner;
 mod sweep;
 pub mod sweeper;
-pub mod table;
 pub mod window;

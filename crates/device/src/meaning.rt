@@ -8,7 +8,7 @@ ghost use Rattle.device.specs.Wishes.{block_wish, interrupt_wish};
 use ordering::operation::{Operation, Words};
 
 /// An operation that a device asks for. Fields that the operation does not use are 0.
-#[derive(Clone, Copy)]
+#[derive(Clone, Copy, Debug, PartialEq, Eq)]
 pub struct Wish {
     pub operation: Operation,
     pub place: u32,

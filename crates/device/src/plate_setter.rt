@@ -5,8 +5,8 @@ ghost use Rattle.std.proofs.Common.{rules};
 ghost use Rattle.device.specs.Plates.{fetched};
 
 use crate::meaning::Wish;
+use crate::registers::Registers;
 use crate::sweeper::{Job, Sweeper};
-use crate::table::Table;
 use ordering::operation::{Operation, Words};
 
 pub type PlateSetter = Sweeper<Fetching, 12>;
@@ -32,7 +32,7 @@ impl Job<12> for Fetching {
 
     ghost four_words = { Prim.search rules };
 
-    fn wish_at(_words: &Table<12>, block: u32) -> Wish {
+    fn wish_at(_words: &Registers<12>, block: u32) -> Wish {
         Wish::block(Operation::LdBlk, block, Words::ZERO)
     }
 }

@@ -6,8 +6,8 @@ ghost use Rattle.std.proofs.Common.{rules};
 ghost use Rattle.device.specs.Scanners.{stored, row_from};
 
 use crate::meaning::Wish;
+use crate::registers::Registers;
 use crate::sweeper::{Job, Sweeper};
-use crate::table::Table;
 use ordering::operation::{Operation, Words};
 
 pub type Scanner = Sweeper<Storing, 8>;
@@ -49,7 +49,7 @@ impl Job<8> for Storing {
 
     ghost four_words = { Prim.search rules };
 
-    fn wish_at(words: &Table<8>, block: u32) -> Wish {
+    fn wish_at(words: &Registers<8>, block: u32) -> Wish {
         Wish::block(Operation::StBlk, block, row_from(words.at[ROW]))
     }
 }

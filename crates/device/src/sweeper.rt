@@ -9,8 +9,8 @@ ghost use Rattle.device.specs.Tasks.{task};
 ghost use Rattle.std.proofs.Common.{rules};
 
 use crate::meaning::{Device, NoWord, Wish, Wishing};
+use crate::registers::Registers;
 use crate::sweep::{Stage, Sweep};
-use crate::table::Table;
 use ordering::operation::Words;
 use std::marker::PhantomData;
 
@@ -36,7 +36,7 @@ pub trait Job<const WORDS: usize> {
     ghost each: { List ℕ → ℕ → Wish };
 
     /// The wish at a block.
-    fn wish_at(words: &Table<WORDS>, block: u32) -> Wish
+    fn wish_at(words: &Registers<WORDS>, block: u32) -> Wish
         ensures { result ≡ each words.now.at block };
 
     ghost few: { WORDS ≤ 64 };
@@ -49,7 +49,7 @@ pub trait Job<const WORDS: usize> {
 /// A device of so many words that sweeps blocks as its job says.
 #[derive(Clone, Copy)]
 pub struct Sweeper<J, const WORDS: usize> {
-    words: Table<WORDS>,
+    words: Registers<WORDS>,
     sweep: Option<Sweep>,
     job: PhantomData<J>,
 }
@@ -60,7 +60,7 @@ impl<J: Job<WORDS>, const WORDS: usize> Sweeper<J, WORDS> {
         ensures { result ≡ blank WORDS }
     {
         Sweeper {
-            words: Table::zeros(),
+            words: Registers::zeros(),
             sweep: None,
             job: PhantomData,
         }

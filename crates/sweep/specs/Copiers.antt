@@ -5,7 +5,7 @@ use Rattle.ordering.specs.declared.operation.Operation.TheVariants.{LdIo, StIo}
 use Rattle.ordering.specs.Words.{one_word}
 use Rattle.device.specs.declared.meaning.Wish.{Wish}
 use Rattle.device.specs.Meaning.{Meaning}
-use Rattle.device.specs.Tables.{zeros, written}
+use Rattle.device.specs.Registers.{zeros, written}
 use Rattle.sweep.specs.declared.copier.Copier.{Copier}
 use Rattle.sweep.specs.declared.copier.Copying.{Copying}
 use Rattle.sweep.specs.declared.copier.Phase.{Phase}

@@ -7,7 +7,7 @@ ghost use Rattle.sweep.specs.Copiers.{copier_meaning, blank_copier, copying, wor
 ghost use Rattle.std.proofs.Common.{rules};
 
 use device::meaning::{Device, NoWord, Wish, Wishing};
-use device::table::Table;
+use device::registers::Registers;
 use ordering::operation::{Operation, Words};
 
 const SOURCE: u32 = 1;
@@ -23,7 +23,7 @@ pub enum Phase {
 
 #[derive(Clone, Copy)]
 pub struct Copying {
-    words: Table<3>,
+    words: Registers<3>,
     phase: Phase,
 }
 
@@ -38,7 +38,7 @@ impl Copier {
         ensures { result ≡ blank_copier }
     {
         let copying = Copying {
-            words: Table::zeros(),
+            words: Registers::zeros(),
             phase: Phase::Rest,
         };
         Copier { copying, reads: 0 }

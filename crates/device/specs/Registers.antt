@@ -1,17 +1,17 @@
 -- The words of a device by their places; one that is not there is refused.
 use Rattle.std.specs.Prelude.{ℕ, cond, length, replicate, Ok, Result, nat_lt, slice_index, slice_set}
 use Rattle.device.specs.declared.meaning.NoWord.{NoWord}
-use Rattle.device.specs.declared.table.Table.{Table}
+use Rattle.device.specs.declared.registers.Registers.{Registers}
 use Rattle.device.specs.Meaning.{no_word}
 
-abbrev pub zeros : (n : ℕ) → Table n
+abbrev pub zeros : (n : ℕ) → Registers n
 zeros n = record { at = replicate n 0 }
 
-abbrev pub read_of : {n : ℕ} → Table n → ℕ → Result ℕ NoWord
+abbrev pub read_of : {n : ℕ} → Registers n → ℕ → Result ℕ NoWord
 read_of t p = cond (nat_lt p (length t.at)) (Ok (slice_index t.at p)) (no_word p)
 
-abbrev pub written : {n : ℕ} → Table n → ℕ → ℕ → Table n
+abbrev pub written : {n : ℕ} → Registers n → ℕ → ℕ → Registers n
 written t p v = record { at = slice_set t.at p v }
 
-abbrev pub write_of : {n : ℕ} → Table n → ℕ → Result (Unit {0}) NoWord
+abbrev pub write_of : {n : ℕ} → Registers n → ℕ → Result (Unit {0}) NoWord
 write_of t p = cond (nat_lt p (length t.at)) (Ok tt) (no_word p)

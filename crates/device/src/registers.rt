@@ -1,21 +1,21 @@
 //! The words of a device, by their places.
 
 ghost use Rattle.std.specs.Prelude.{◌≡◌, length};
-ghost use Rattle.device.specs.Tables.{zeros, read_of, written, write_of};
+ghost use Rattle.device.specs.Registers.{zeros, read_of, written, write_of};
 
 use crate::meaning::NoWord;
 
 #[derive(Clone, Copy, Debug, PartialEq, Eq)]
-pub struct Table<const N: usize> {
+pub struct Registers<const N: usize> {
     pub at: [u32; N],
 }
 
-impl<const N: usize> Table<N> {
+impl<const N: usize> Registers<N> {
     /// All words 0.
-    pub fn zeros() -> Table<N>
+    pub fn zeros() -> Registers<N>
         ensures { result ≡ zeros N }
     {
-        Table { at: [0; N] }
+        Registers { at: [0; N] }
     }
 
     pub fn len(&self) -> usize
