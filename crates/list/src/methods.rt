@@ -1,6 +1,6 @@
 //! What a list does, by the sequence of its records.
 
-ghost use Rattle.std.specs.Prelude.{◌≡◌, ◌+◌, ◌<◌, ◌≤◌, min, [], ◌∷◌, ◌++◌, length, is_some, if◌then◌else◌, Some, nat_lt};
+ghost use Rattle.std.specs.Prelude.{◌≡◌, ◌+◌, ◌≤◌, min, [], length, is_some, if◌then◌else◌, nat_lt};
 ghost use Rattle.std.specs.List.{slice_get};
 ghost use Rattle.list.specs.Contents.{contents, room, push_answer, pushed, removed};
 
@@ -63,7 +63,7 @@ impl<'a, T: Record> List<'a, T> {
     }
 
     /// Gives up the record at a place, if the list has one there, and closes the gap.
-    #[tactic(auto, using(crate::proofs::Gap::gap_closed, crate::proofs::Gap::no_gap))]
+    #[tactic(auto, using(crate::proofs::Gap::no_gap))]
     pub fn remove(&mut self, place: usize) -> Option<T>
         ensures answer { result ≡ slice_get (contents self.old) place }
         ensures held { self.new ≡ record self.old { records = removed (contents self.old) place } }
