@@ -6,8 +6,9 @@ use Rattle.std.specs.List.{copy_within}
 use Rattle.list.specs.Contents.{removed}
 use Rattle.list.specs.Held.{Held}
 
-closed : {T : Type 0} (old : Seq T) (n place : ℕ) → place < n → n ≤ length old → take (n - 1) (copy_within old (place + 1) n place) ≡ removed (take n old) place
-closed old n place low lent =
+pub gap_closed : {T : Type 0} (old new : Seq T) (n place : ℕ) → place < n → n ≤ length old → new ≡ copy_within old (place + 1) n place → length new ≡ length old
+    → ◌≡◌ {A = Held T} (record { records = take (n - 1) new; room = length new }) (record { records = removed (take n old) place; room = length old })
+gap_closed old new n place low lent is long =
     let k : place + (n - (place + 1)) ≡ n - 1 = omega arith in
     let e : (place + 1) + (n - (place + 1)) ≡ n = omega arith in
     let l = length-drop (place + 1) old in
@@ -15,10 +16,6 @@ closed old n place low lent =
     let f = take-take place n old (omega arith) in
     let b = drop-take (place + 1) (n - (place + 1)) old in
     cc
-
-pub gap_closed : {T : Type 0} (old new : Seq T) (n place : ℕ) → place < n → n ≤ length old → new ≡ copy_within old (place + 1) n place → length new ≡ length old
-    → ◌≡◌ {A = Held T} (record { records = take (n - 1) new; room = length new }) (record { records = removed (take n old) place; room = length old })
-gap_closed old new n place low lent is long = let c = closed old n place low lent in cc
 
 pub no_gap : {T : Type 0} (xs : Seq T) (place : ℕ) → length xs ≤ place → removed xs place ≡ xs
 no_gap xs place past = rw (take_all place xs past, drop_all (place + 1) xs (omega arith)) (append-nil xs)

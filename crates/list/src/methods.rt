@@ -1,6 +1,6 @@
 //! What a list does, by the sequence of its records.
 
-ghost use Rattle.std.specs.Prelude.{◌≡◌, ◌+◌, ◌≤◌, min, [], length, is_some, if◌then◌else◌, nat_lt};
+ghost use Rattle.std.specs.Prelude.{◌≡◌, ◌+◌, ◌<◌, ◌≤◌, min, [], length, is_some, if◌then◌else◌, nat_lt};
 ghost use Rattle.std.specs.List.{slice_get};
 ghost use Rattle.list.specs.Contents.{contents, room, push_answer, pushed, removed};
 
@@ -70,8 +70,7 @@ impl<'a, T: Record> List<'a, T> {
         ensures len { length (contents self.new) + (if is_some result then 1 else 0) ≡ length (contents self.old) }
     {
         let record = self.get(place)?;
-        self.memory.copy_within(place + 1..self.len, place);
-        self.len -= 1;
+        self.close_gap(place);
         Some(record)
     }
 
@@ -79,6 +78,15 @@ impl<'a, T: Record> List<'a, T> {
         ensures { self.new ≡ record self.old { records = [] } }
     {
         self.len = 0;
+    }
+
+    // Moves the records behind a place down by one.
+    fn close_gap(&mut self, place: usize)
+        requires { place < length (contents self.old) }
+        ensures { self.new ≡ record self.old { records = removed (contents self.old) place } }
+    {
+        self.memory.copy_within(place + 1..self.len, place);
+        self.len -= 1;
     }
 }
 

@@ -1,9 +1,9 @@
 //! The parts of a run of bytes, each up to a mark.
 
-ghost use Rattle.std.specs.Prelude.{◌≡◌, ◌+◌, ◌<◌, ◌==◌, OnSome};
+ghost use Rattle.std.specs.Prelude.{◌≡◌, ◌+◌, ◌<◌, ◌≤◌, ◌==◌, length, take, OnSome};
 ghost use Rattle.std.specs.List.{position};
 ghost use Rattle.std.specs.Option.{option_map};
-ghost use Rattle.text.specs.Parts.{left, first_part, other_parts, has_none};
+ghost use Rattle.text.specs.Parts.{before, after, left, first_part, other_parts, has_none};
 
 /// A run of bytes and the place up to which it has been read.
 #[derive(Clone, Copy)]
@@ -18,6 +18,15 @@ fn first_mark(bytes: &[u8], mark: u8) -> Option<usize>
     bytes.iter().position(|&byte| byte == mark)
 }
 
+// Where the first part ends: at the first mark, or at the end.
+fn end_of_part(bytes: &[u8], mark: u8) -> usize
+    ensures high { result ≤ length bytes.now }
+    ensures part { take result bytes.now ≡ before mark bytes.now }
+    ensures rest { left bytes.now (result + 1) ≡ after mark bytes.now }
+{
+    first_mark(bytes, mark).unwrap_or(bytes.len())
+}
+
 impl<'a, const MARK: u8> Parts<'a, MARK> {
     /// Past the end there is no part; an empty rest is one empty part.
     pub(crate) fn next(&mut self) -> Option<&'a [u8]>
@@ -27,7 +36,7 @@ impl<'a, const MARK: u8> Parts<'a, MARK> {
         ensures onward { OnSome result (self.old.at < self.new.at) }
     {
         let rest = self.bytes.get(self.at..)?;
-        let end = first_mark(rest, MARK).unwrap_or(rest.len());
+        let end = end_of_part(rest, MARK);
         self.at += end + 1;
         Some(&rest[..end])
     }
