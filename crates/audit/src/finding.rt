@@ -1,9 +1,9 @@
 //! What the audit finds of one word of a read.
 
-ghost use Rattle.std.specs.Prelude.{◌≡◌, IfOk, string_bytes};
-ghost use Rattle.audit.specs.Findings.{found_of, judged, sourced_line, line_of};
+ghost use Rattle.std.specs.Prelude.{◌≡◌};
+ghost use Rattle.audit.specs.Findings.{found_of, judged};
 
-use std::alloc::{AllocError, Global};
+use std::fmt;
 use trail::entry::Entry;
 use trail::source::source;
 
@@ -20,13 +20,8 @@ pub struct Finding {
 pub fn audited(trail: &[Entry], entry: usize, word: u32) -> Option<Finding>
     ensures { result ≡ found_of trail.now entry word }
 {
-    let Ok(source) = source(trail, entry, word) else {
-        return None;
-    };
-    if entry >= trail.len() {
-        return None;
-    }
-    let read = trail[entry];
+    let source = source(trail, entry, word).ok()?;
+    let read = trail.get(entry)?;
     Some(Finding {
         entry,
         word,
@@ -41,31 +36,26 @@ fn verdict(value: u32, got: u32) -> &'static str
     if value == got { "agrees" } else { "differs" }
 }
 
-fn sourced(
-    heap: Global,
-    entry: usize,
-    word: u32,
-    number: usize,
-    value: u32,
-    verdict: &str,
-) -> Result<String, AllocError>
-    ensures { IfOk result (λ s. string_bytes s ≡ sourced_line entry word number value verdict.now) }
-{
-    format!(in heap; "{entry}\t{word}\t{number}\t{value}\t{verdict}")
-}
+/// The line that tells it: entry, word, source entry and value, and whether the read agrees; or none.
+impl fmt::Display for Finding {
+    ghost use Rattle.std.specs.Prelude.{Some};
+    ghost use Rattle.audit.specs.Findings.{line_of};
 
-/// The finding as a line: entry, word, source entry and value, and whether the read agrees; or none.
-pub fn told(heap: Global, found: Finding) -> Result<String, AllocError>
-    ensures { IfOk result (λ s. string_bytes s ≡ line_of found) }
-{
-    let Finding {
-        entry,
-        word,
-        got,
-        source,
-    } = found;
-    match source {
-        None => format!(in heap; "{entry}\t{word}\tnone"),
-        Some((number, value)) => sourced(heap, entry, word, number, value, verdict(value, got)),
+    ghost output = { λ found. Some (line_of found) };
+
+    fn fmt<W: fmt::Write>(&self, f: &mut fmt::Formatter<W>) -> fmt::Result {
+        let Finding {
+            entry,
+            word,
+            got,
+            source,
+        } = *self;
+        match source {
+            None => write!(f, "{entry}\t{word}\tnone"),
+            Some((number, value)) => {
+                let verdict = verdict(value, got);
+                write!(f, "{entry}\t{word}\t{number}\t{value}\t{verdict}")
+            }
+        }
     }
 }

@@ -2,8 +2,8 @@
 
 #![tactic(auto)]
 
-use finding::{audited, told};
-use list::List;
+use finding::audited;
+use list::{List, Record};
 use record::{NO_ENTRY, entry_of};
 use std::io;
 use std::io::Read;
@@ -16,11 +16,7 @@ mod record;
 
 // Reports what stands in no entry's form or finds no room, and goes on.
 fn read_trail(rt: &HostRuntime, text: &[u8], trail: &mut List<Entry>) -> io::Result<()> {
-    let mut lines = Lines::new(text);
-    for number in 1..=text.len() {
-        let Some(line) = lines.next() else {
-            break;
-        };
+    for (number, line) in (1_usize..).zip(Lines::new(text)) {
         match entry_of(line) {
             None => println!(rt; "line\t{number}\tnot an entry")?,
             Some(entry) => {
@@ -37,15 +33,13 @@ fn main(rt: HostRuntime) -> io::Result<()> {
     let heap = rt.alloc();
     let mut text = Vec::new(heap);
     rt.stdin().read_to_end(&mut text)?;
-    let mut memory = vec![in heap; NO_ENTRY; 4096]?;
+    let mut memory = vec![in heap; NO_ENTRY; Entry::MOST]?;
     let mut trail = List::new(&mut memory);
     read_trail(&rt, &text, &mut trail)?;
     let entries = trail.records();
     for number in 0..entries.len() {
-        for word in 0..4 {
-            if let Some(found) = audited(entries, number, word) {
-                rt.println(told(heap, found)?)?;
-            }
+        for found in (0..4).filter_map(|word| audited(entries, number, word)) {
+            rt.println(found)?;
         }
     }
     let sum = control_sum(entries);

@@ -26,85 +26,49 @@ pub const NO_ENTRY: Entry = Entry {
     },
 };
 
-fn same(one: &[u8], other: &[u8]) -> bool
-    ensures { result ≡ bytes_eq one.now other.now }
-{
-    one == other
-}
-
 fn operation_named(field: &[u8]) -> Option<Operation>
     ensures { result ≡ named field.now }
 {
-    if same(field, Operation::Ld.name().as_bytes()) {
-        return Some(Operation::Ld);
+    match field {
+        b"LD" => Some(Operation::Ld),
+        b"ST" => Some(Operation::St),
+        b"LDio" => Some(Operation::LdIo),
+        b"STio" => Some(Operation::StIo),
+        b"INT" => Some(Operation::Int),
+        b"LDblk" => Some(Operation::LdBlk),
+        b"STblk" => Some(Operation::StBlk),
+        _ => None,
     }
-    if same(field, Operation::St.name().as_bytes()) {
-        return Some(Operation::St);
-    }
-    if same(field, Operation::LdIo.name().as_bytes()) {
-        return Some(Operation::LdIo);
-    }
-    if same(field, Operation::StIo.name().as_bytes()) {
-        return Some(Operation::StIo);
-    }
-    if same(field, Operation::Int.name().as_bytes()) {
-        return Some(Operation::Int);
-    }
-    if same(field, Operation::LdBlk.name().as_bytes()) {
-        return Some(Operation::LdBlk);
-    }
-    if same(field, Operation::StBlk.name().as_bytes()) {
-        return Some(Operation::StBlk);
-    }
-    None
 }
 
 fn next_operation(fields: &mut Fields) -> Option<Operation>
     ensures value { result ≡ next_named (unread fields.old) }
     ensures rest { unread fields.new ≡ other_fields (unread fields.old) }
 {
-    let Some(field) = fields.next() else {
-        return None;
-    };
-    operation_named(field)
+    operation_named(fields.next()?)
 }
 
 fn next_words(fields: &mut Fields) -> Option<Words>
     ensures value { result ≡ next_words (unread fields.old) }
     ensures rest { OnSome result (unread fields.new ≡ after_words (unread fields.old)) }
 {
-    let Some(a) = fields.number() else {
-        return None;
-    };
-    let Some(b) = fields.number() else {
-        return None;
-    };
-    let Some(c) = fields.number() else {
-        return None;
-    };
-    let Some(d) = fields.number() else {
-        return None;
-    };
-    Some(Words { at: [a, b, c, d] })
+    let at = [
+        fields.number()?,
+        fields.number()?,
+        fields.number()?,
+        fields.number()?,
+    ];
+    Some(Words { at })
 }
 
 fn next_stamp(fields: &mut Fields) -> Option<Stamp>
     ensures value { result ≡ next_stamp (unread fields.old) }
     ensures rest { OnSome result (unread fields.new ≡ after_stamp (unread fields.old)) }
 {
-    let Some(global) = fields.number() else {
-        return None;
-    };
-    let Some(local) = fields.number() else {
-        return None;
-    };
-    let Some(node) = fields.number() else {
-        return None;
-    };
     Some(Stamp {
-        global: u64::from(global),
-        local: u64::from(local),
-        node,
+        global: u64::from(fields.number()?),
+        local: u64::from(fields.number()?),
+        node: fields.number()?,
     })
 }
 
@@ -113,37 +77,14 @@ pub fn entry_of(line: &[u8]) -> Option<Entry>
     ensures { result ≡ recorded line.now }
 {
     let mut fields = Fields::new(line);
-    let Some(party) = fields.number() else {
-        return None;
+    let entry = Entry {
+        party: fields.number()?,
+        sequence: fields.number()?,
+        operation: next_operation(&mut fields)?,
+        space: fields.number()?,
+        place: fields.number()?,
+        values: next_words(&mut fields)?,
+        stamp: next_stamp(&mut fields)?,
     };
-    let Some(sequence) = fields.number() else {
-        return None;
-    };
-    let Some(operation) = next_operation(&mut fields) else {
-        return None;
-    };
-    let Some(space) = fields.number() else {
-        return None;
-    };
-    let Some(place) = fields.number() else {
-        return None;
-    };
-    let Some(values) = next_words(&mut fields) else {
-        return None;
-    };
-    let Some(stamp) = next_stamp(&mut fields) else {
-        return None;
-    };
-    if !fields.is_done() {
-        return None;
-    }
-    Some(Entry {
-        party,
-        sequence,
-        operation,
-        space,
-        place,
-        values,
-        stamp,
-    })
+    fields.is_done().then_some(entry)
 }

@@ -1,43 +1,21 @@
--- Closing the gap at a place: `new` is the memory `old` once the records behind `place`, up to k, have moved down by one.
-use Rattle.std.proofs.Common.{◌≡◌, ℕ, ◌+◌, ◌-◌, ◌<◌, ◌≤◌, List as Seq, [], ◌∷◌, ◌++◌, length, get_or, take, drop, set, sym, ap, ◌∙◌, arith}
-use Rattle.std.proofs.lemmas.List.Edits.{between_more}
-use Rattle.std.proofs.lemmas.List.{append_assoc, append-nil, drop_all, drop-drop, drop-set-lt, get_or-drop, length-take-le, take_all, take_more_set, take-take}
-use Rattle.std.proofs.lemmas.Slice.{between_is}
-use Rattle.std.specs.List.{between}
+-- Closing the gap at a place, by a copy of what stands behind it.
+use Rattle.std.proofs.Common.{◌≡◌, ℕ, ◌+◌, ◌-◌, ◌<◌, ◌≤◌, List as Seq, length, take, drop, arith, length-drop}
+use Rattle.std.proofs.lemmas.List.Edits.{take-paste}
+use Rattle.std.proofs.lemmas.List.{append-nil, drop_all, drop-take, take_all, take-take}
+use Rattle.std.specs.List.{copy_within}
 use Rattle.list.specs.Contents.{removed}
+use Rattle.list.specs.Held.{Held}
 
-module _ {T : Type 0} (old new : Seq T) (place k : ℕ) (low : place ≤ k) (in_old : k + 1 < length old) (in_new : k + 1 < length new)
-    (front : take k new ≡ take place old ++ between (place + 1) (k + 1) old) (back : drop k new ≡ drop k old) (d : T) where
-  next_is_old : get_or new (k + 1) d ≡ get_or old (k + 1) d
-  next_is_old = sym (get_or-drop k new 1 d) ∙ ap (λ (l : Seq T). get_or l 1 d) back ∙ get_or-drop k old 1 d
-
-  pub front_moves : take (k + 1) (set new k (get_or new (k + 1) d)) ≡ take place old ++ between (place + 1) ((k + 1) + 1) old
-  front_moves =
-      let s = next_is_old in
-      let m = take_more_set new k (get_or new (k + 1) d) (omega arith) in
-      let b = between_more old (place + 1) (k + 1) d (omega arith) in_old in
-      let a = append_assoc (take place old) (between (place + 1) (k + 1) old) (get_or old (k + 1) d ∷ []) in
-      cc
-
-  pub back_stays : drop (k + 1) (set new k (get_or new (k + 1) d)) ≡ drop (k + 1) old
-  back_stays =
-      let s = drop-set-lt (k + 1) new k (get_or new (k + 1) d) (omega arith) in
-      let a = drop-drop 1 k new in
-      let b = drop-drop 1 k old in
-      cc
-
-pub gap_closed : {T : Type 0} (old new : Seq T) (place n k : ℕ) → place < n → n ≤ length old → k + 1 ≡ n
-    → take k new ≡ take place old ++ between (place + 1) (k + 1) old → take (n - 1) new ≡ removed (take n old) place
-gap_closed old new place n k h lent e front =
-    let p : n - 1 ≡ k = omega arith in
-    let a = take-take place n old (omega arith) in
-    let b = between_is old (place + 1) n in
+pub gap_closed : {T : Type 0} (old new : Seq T) (n place : ℕ) → place < n → n ≤ length old → new ≡ copy_within old (place + 1) n place → length new ≡ length old
+    → ◌≡◌ {A = Held T} (record { records = take (n - 1) new; room = length new }) (record { records = removed (take n old) place; room = length old })
+gap_closed old new n place low lent is long =
+    let k : place + (n - (place + 1)) ≡ n - 1 = omega arith in
+    let e : (place + 1) + (n - (place + 1)) ≡ n = omega arith in
+    let l = length-drop (place + 1) old in
+    let p = take-paste old place (drop (place + 1) old) (n - (place + 1)) (omega arith) (omega arith) in
+    let f = take-take place n old (omega arith) in
+    let b = drop-take (place + 1) (n - (place + 1)) old in
     cc
 
-pub nothing_removed : {T : Type 0} (old : Seq T) (n place : ℕ) → n ≤ place → n ≤ length old → take n old ≡ removed (take n old) place
-nothing_removed old n place h lent =
-    let e = length-take-le n old lent in
-    let a = take_all place (take n old) (omega arith) in
-    let b = drop_all (place + 1) (take n old) (omega arith) in
-    let d = append-nil (take n old) in
-    cc
+pub no_gap : {T : Type 0} (xs : Seq T) (place : ℕ) → length xs ≤ place → removed xs place ≡ xs
+no_gap xs place past = rw (take_all place xs past, drop_all (place + 1) xs (omega arith)) (append-nil xs)

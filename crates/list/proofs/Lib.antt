@@ -1,2 +1,1 @@
 pub mod Gap
-pub mod Places

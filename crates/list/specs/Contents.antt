@@ -5,11 +5,11 @@ use Rattle.list.specs.declared.storage.List.{List}
 
 -- The records, oldest first.
 abbrev pub contents : {T : Type 0} → List T → Seq T
-contents l = take l.len l.memory.now
+contents l = l.records
 
 -- How many records the list has room for.
 abbrev pub room : {T : Type 0} → List T → ℕ
-room l = l.capacity
+room l = l.room
 
 abbrev pub push_answer : {T : Type 0} → Seq T → ℕ → Result (Unit {0}) Full
 push_answer xs cap = cond (nat_lt (length xs) cap) (Ok tt) (Err (record { capacity = cap }))

@@ -1,11 +1,10 @@
 //! What a list may hold of a kind of record.
 
-ghost use Rattle.std.specs.Prelude.{◌≡◌, ℕ};
+ghost use Rattle.std.specs.Prelude.{ℕ};
 
 /// A kind of record, with the most that a list of it may hold.
 pub trait Record: Copy {
-    ghost most: { ℕ };
+    const MOST: usize;
 
-    fn most() -> usize
-        ensures { result ≡ most };
+    ghost MOST: { ℕ };
 }

@@ -42,9 +42,7 @@ impl Message {
 }
 
 impl Record for Message {
-    ghost most = { 256 };
+    const MOST: usize = 256;
 
-    fn most() -> usize {
-        256
-    }
+    ghost MOST = { 256 };
 }

@@ -39,7 +39,7 @@ pub(crate) fn check_room(
     if waiting > capacity || sends > capacity - waiting {
         return Err(Fault::Network(NetworkFault::MessagesFull(capacity)));
     }
-    if enters && trail.len() == trail.capacity() {
+    if trail.len() == trail.capacity() && enters {
         return Err(Fault::Board(BoardFault::TrailFull(trail.capacity())));
     }
     Ok(())

@@ -1,3 +1,1 @@
-pub mod Digits
 pub mod Marks
-pub mod Rest

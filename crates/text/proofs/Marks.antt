@@ -1,53 +1,42 @@
--- Looking for a mark byte by byte: at place e, none was found from `at` on.
-use Rattle.std.proofs.Common.{◌≡◌, ℕ, ◌+◌, ◌<◌, ◌≤◌, List, [], ◌∷◌, ◌++◌, length, get_or, drop, Some, None, refl, ap, ◌∙◌, arith}
-use Rattle.std.proofs.lemmas.List.Edits.{between_more}
-use Rattle.std.proofs.lemmas.List.{append_assoc, append-nil, at_drop_more, at_drop_all}
-use Rattle.std.proofs.lemmas.Bool.{eq-eqb, ne_eqb, le-leb, lt-leb}
-use Rattle.std.specs.List.{between}
-use Rattle.text.proofs.Rest.{some_of_left}
-use Rattle.text.specs.Parts.{before, after, left, some_left, unless_empty}
+-- The part up to the first mark, by the place of that mark.
+use Rattle.std.proofs.Common.{◌≡◌, ℕ, ◌+◌, ◌==◌, true, false, not, cond, List, [], ◌∷◌, length, take, Some, Option, refl, ap, arith, add-one}
+use Rattle.std.proofs.Math.Numerals.{one-add}
+use Rattle.std.proofs.lemmas.Bool.Decides.{nat_tests}
+use Rattle.std.proofs.lemmas.List.Sums.{prefix_len-le-length}
+use Rattle.std.specs.List.{position, position_or_len}
+use Rattle.std.specs.Option.{unwrap_or}
+use Rattle.text.specs.Parts.{before, after, left}
 
-module _ (xs : List ℕ) (mark at e : ℕ) (low : at ≤ e) (inside : e < length xs) where
-  pub before_more : (get_or xs e 0 ≡ mark → ⊥) → before mark (drop at xs) ≡ between at e xs ++ before mark (drop e xs)
-      → before mark (drop at xs) ≡ between at (e + 1) xs ++ before mark (drop (e + 1) xs)
-  before_more other so_far =
-      let here : before mark (drop e xs) ≡ get_or xs e 0 ∷ before mark (drop (e + 1) xs) =
-      at_drop_more (before mark) xs e 0 inside ∙ rw (ne_eqb (get_or xs e 0) mark other) refl
-      in
-      let longer = between_more xs at e 0 low inside in
-      let joined = append_assoc (between at e xs) (get_or xs e 0 ∷ []) (before mark (drop (e + 1) xs)) in
-      cc
+abbrev end : ℕ → List ℕ → ℕ
+end c xs = position_or_len (λ x. x == c) xs
 
-  pub after_more : (get_or xs e 0 ≡ mark → ⊥) → after mark (drop at xs) ≡ after mark (drop e xs) → after mark (drop at xs) ≡ after mark (drop (e + 1) xs)
-  after_more other so_far = so_far ∙ at_drop_more (after mark) xs e 0 inside ∙ rw (ne_eqb (get_or xs e 0) mark other) refl
+before_is : (c : ℕ) (xs : List ℕ) → take (end c xs) xs ≡ before c xs
+before_is c [] = refl
+before_is c (x ∷ xs) =
+    elim (x == c) as (λ b. take (cond (not b) (1 + end c xs) 0) (x ∷ xs) ≡ cond b [] (x ∷ before c xs)) [
+      | true ↦ refl
+      | false ↦ rw (one-add (end c xs)) (ap (λ (l : List ℕ). x ∷ l) (before_is c xs))
+    ]
 
-  pub before_found : get_or xs e 0 ≡ mark → before mark (drop at xs) ≡ between at e xs ++ before mark (drop e xs) → between at e xs ≡ before mark (drop at xs)
-  before_found found so_far =
-      let here : before mark (drop e xs) ≡ [] = at_drop_more (before mark) xs e 0 inside ∙ rw (eq-eqb (get_or xs e 0) mark found) refl in
-      let none = append-nil (between at e xs) in
-      cc
+-- one place further on in one more element
+left-cons : (x : ℕ) (xs : List ℕ) (n : ℕ) → left (x ∷ xs) (n + 1) ≡ left xs n
+left-cons x xs n = rw add-one (grind (arith, nat_tests))
 
-  pub after_found : get_or xs e 0 ≡ mark → after mark (drop at xs) ≡ after mark (drop e xs) → left xs (e + 1) ≡ after mark (drop at xs)
-  after_found found so_far =
-      let here : after mark (drop e xs) ≡ Some (drop (e + 1) xs) = at_drop_more (after mark) xs e 0 inside ∙ rw (eq-eqb (get_or xs e 0) mark found) refl in
-      let rest : left xs (e + 1) ≡ Some (drop (e + 1) xs) = rw (le-leb (e + 1) (length xs) (omega arith)) refl in
-      cc
+after_is : (c : ℕ) (xs : List ℕ) → left xs (end c xs + 1) ≡ after c xs
+after_is c [] = grind (arith, nat_tests)
+after_is c (x ∷ xs) =
+    let l = left-cons x xs in
+    elim (x == c) as (λ b. left (x ∷ xs) (cond (not b) (1 + end c xs) 0 + 1) ≡ cond b (Some xs) (after c xs)) [
+      | true ↦ grind (arith, nat_tests)
+      | false ↦ rw (l (1 + end c xs), one-add (end c xs), ← add-one (end c xs)) (after_is c xs)
+    ]
 
-  pub more_found : get_or xs e 0 ≡ mark → after mark (drop at xs) ≡ after mark (drop e xs) → some_left xs (e + 1) ≡ unless_empty (after mark (drop at xs))
-  more_found found so_far = some_of_left xs (e + 1) ∙ ap unless_empty (after_found found so_far)
+module _ (c : ℕ) (xs : List ℕ) (o : Option ℕ) (e : ℕ) (found : o ≡ position (λ x. x == c) xs) (reached : e ≡ unwrap_or o (length xs)) where
+  end_is : e ≡ end c xs
+  end_is = let h = prefix_len-le-length (λ x. not (x == c)) xs in grind (arith, nat_tests)
 
-module _ (xs : List ℕ) (mark at e : ℕ) (outside : length xs ≤ e) where
-  pub before_all : before mark (drop at xs) ≡ between at e xs ++ before mark (drop e xs) → between at e xs ≡ before mark (drop at xs)
-  before_all so_far =
-      let here : before mark (drop e xs) ≡ [] = at_drop_all (before mark) xs e outside in
-      let none = append-nil (between at e xs) in
-      cc
+  pub part_is : take e xs ≡ before c xs
+  part_is = rw end_is (before_is c xs)
 
-  pub after_all : after mark (drop at xs) ≡ after mark (drop e xs) → left xs (e + 1) ≡ after mark (drop at xs)
-  after_all so_far =
-      let here : after mark (drop e xs) ≡ None = at_drop_all (after mark) xs e outside in
-      let rest : left xs (e + 1) ≡ None = rw (lt-leb (e + 1) (length xs) (omega arith)) refl in
-      cc
-
-  pub more_all : after mark (drop at xs) ≡ after mark (drop e xs) → some_left xs (e + 1) ≡ unless_empty (after mark (drop at xs))
-  more_all so_far = some_of_left xs (e + 1) ∙ ap unless_empty (after_all so_far)
+  pub rest_is : left xs (e + 1) ≡ after c xs
+  rest_is = rw end_is (after_is c xs)

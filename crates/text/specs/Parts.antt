@@ -18,17 +18,24 @@ after c (x ∷ xs) = cond (x == c) (Some xs) (after c xs)
 abbrev pub left : List ℕ → ℕ → Option (List ℕ)
 left bytes at = cond (nat_le at (length bytes)) (Some (drop at bytes)) None
 
--- A line's fields are parted by tabs. None: all have been read; an empty rest is one empty field.
+-- The first of the parts between marks; None: all have been read, and an empty rest is one empty part.
+abbrev pub first_part : ℕ → Option (List ℕ) → Option (List ℕ)
+first_part c None = None
+first_part c (Some xs) = Some (before c xs)
+
+abbrev pub other_parts : ℕ → Option (List ℕ) → Option (List ℕ)
+other_parts c None = None
+other_parts c (Some xs) = after c xs
+
+-- A line's fields are parted by tabs.
 abbrev pub unread : Fields → Option (List ℕ)
-unread f = left f.bytes.now f.at
+unread f = left f.parts.bytes.now f.parts.at
 
 abbrev pub first_field : Option (List ℕ) → Option (List ℕ)
-first_field None = None
-first_field (Some xs) = Some (before 9 xs)
+first_field r = first_part 9 r
 
 abbrev pub other_fields : Option (List ℕ) → Option (List ℕ)
-other_fields None = None
-other_fields (Some xs) = after 9 xs
+other_fields r = other_parts 9 r
 
 abbrev pub first_number : Option (List ℕ) → Option ℕ
 first_number None = None
@@ -43,16 +50,14 @@ abbrev pub some_left : List ℕ → ℕ → Option (List ℕ)
 some_left bytes at = cond (nat_lt at (length bytes)) (Some (drop at bytes)) None
 
 abbrev pub to_come : Lines → Option (List ℕ)
-to_come l = some_left l.bytes.now l.at
+to_come l = some_left l.parts.bytes.now l.parts.at
 
 abbrev pub first_line : Option (List ℕ) → Option (List ℕ)
-first_line None = None
-first_line (Some xs) = Some (before 10 xs)
+first_line r = first_part 10 r
 
 abbrev pub unless_empty : Option (List ℕ) → Option (List ℕ)
 unless_empty None = None
 unless_empty (Some xs) = some_left xs 0
 
 abbrev pub other_lines : Option (List ℕ) → Option (List ℕ)
-other_lines None = None
-other_lines (Some xs) = unless_empty (after 10 xs)
+other_lines r = unless_empty (other_parts 10 r)

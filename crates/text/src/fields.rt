@@ -1,37 +1,26 @@
 //! The fields of a line, parted by tabs.
 
-ghost use Rattle.std.specs.Prelude.{◌≡◌, Some};
+ghost use Rattle.std.specs.Prelude.{◌≡◌, ◌+◌, ◌-◌, Some, length};
+ghost use Rattle.std.specs.Iterator.{at_most};
 ghost use Rattle.std.specs.Option.{option_map};
 ghost use Rattle.text.specs.Parts.{unread, first_field, other_fields, first_number, has_none};
 
-use crate::bytes::{decimal, end_from};
+use crate::bytes::decimal;
+use crate::parts::Parts;
 
 /// A line and the place up to which it has been read.
 #[derive(Clone, Copy)]
 pub struct Fields<'a> {
-    bytes: &'a [u8],
-    at: usize,
+    parts: Parts<'a, b'\t'>,
 }
 
 impl<'a> Fields<'a> {
     pub fn new(line: &'a [u8]) -> Fields<'a>
         ensures { unread result ≡ Some line.now }
     {
-        Fields { bytes: line, at: 0 }
-    }
-
-    pub fn next(&mut self) -> Option<&'a [u8]>
-        ensures field { option_map (λ x. x.now) result ≡ first_field (unread self.old) }
-        ensures rest { unread self.new ≡ other_fields (unread self.old) }
-    {
-        let bytes = self.bytes;
-        let at = self.at;
-        if at > bytes.len() {
-            return None;
+        Fields {
+            parts: Parts { bytes: line, at: 0 },
         }
-        let end = end_from(bytes, at, b'\t');
-        self.at = end + 1;
-        Some(&bytes[at..end])
     }
 
     /// The number in the next field, if one stands there.
@@ -39,16 +28,39 @@ impl<'a> Fields<'a> {
         ensures number { result ≡ first_number (unread self.old) }
         ensures rest { unread self.new ≡ other_fields (unread self.old) }
     {
-        let Some(field) = self.next() else {
-            return None;
-        };
-        decimal(field)
+        decimal(self.next()?)
     }
 
     /// Whether every field has been read.
     pub fn is_done(&self) -> bool
         ensures { result ≡ has_none (unread self.now) }
     {
-        self.at > self.bytes.len()
+        self.parts.is_done()
+    }
+}
+
+impl<'a> Iterator for Fields<'a> {
+    type Item = &'a [u8];
+
+    ghost next_gives = { λ s r t. (option_map (λ x. x.now) r ≡ first_field (unread s)) × (unread t ≡ other_fields (unread s)) };
+
+    ghost remaining = { λ s. at_most (length s.parts.bytes.now + 1 - s.parts.at) };
+
+    fn next(&mut self) -> Option<&'a [u8]> {
+        self.parts.next()
+    }
+}
+
+#[cfg(test)]
+mod tests {
+    use super::*;
+
+    #[test]
+    fn a_last_tab_opens_an_empty_field(rt: HostRuntime) {
+        let mut fields = Fields::new(b"7\t");
+        assert_eq!(rt; fields.number(), Some(7));
+        assert!(rt; !fields.is_done());
+        assert_eq!(rt; fields.number(), None);
+        assert!(rt; fields.is_done());
     }
 }

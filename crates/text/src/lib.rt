@@ -5,6 +5,7 @@
 mod bytes;
 mod fields;
 mod lines;
+mod parts;
 
 pub use bytes::decimal;
 pub use fields::Fields;

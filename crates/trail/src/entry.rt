@@ -17,9 +17,7 @@ pub struct Entry {
 }
 
 impl Record for Entry {
-    ghost most = { 4096 };
+    const MOST: usize = 4096;
 
-    fn most() -> usize {
-        4096
-    }
+    ghost MOST = { 4096 };
 }

@@ -1,4 +1,4 @@
-use Rattle.std.proofs.Common.{◌≡◌, ◌≤◌, ◌++◌, length, arith, rules}
+use Rattle.std.proofs.Common.{◌≡◌, ◌≤◌, ◌++◌, ◌∙◌, length, arith, rules}
 use Rattle.list.specs.Contents.{contents, room}
 use Rattle.message.specs.Reactions.{gathered}
 use Rattle.raster.proofs.Posting.{sends_one, sends_none, all_sent}
@@ -19,7 +19,8 @@ loop-message-preserved c =
     elim c.match-message.branch [
       | in-Some w ↦
           let sent = sends_one (contents c.loop-message.messages) all os i cap (omega arith) fits step w.in-Some.message w.in-Some.is in
-          (cc, cc)
+          let new = w.messages-is ∙ w.push.ensures.held in
+          (rw new sent, rw new c.loop-message.invariant.1)
       | in_default w ↦
           let kept = sends_none (contents c.loop-message.messages) all os i cap (omega arith) fits step w.in_default.is in
           (cc, cc)

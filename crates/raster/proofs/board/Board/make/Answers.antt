@@ -1,5 +1,6 @@
 use Rattle.std.proofs.Common.{ℕ, [], ◌∷◌, length, refl, ap, ◌∙◌}
 use Rattle.bridge.specs.States.{view}
+use Rattle.list.specs.Contents.{contents, room}
 use Rattle.processor.specs.declared.state.Processor.{Processor}
 use Rattle.raster.proofs.Worlds.{same_world}
 use Rattle.raster.proofs.board.Board.make.Goals as goal
@@ -19,4 +20,4 @@ returns g c =
     c.homes_from-homes.ensures
     (ap (view g.A.Device.state) c.new-2.ensures)
     (ap (view g.B.Device.state) c.new-3.ensures)
-    c.clear.ensures.contents c.clear-2.ensures.contents c.clear.ensures.capacity c.clear-2.ensures.capacity
+    (ap contents c.clear.ensures) (ap contents c.clear-2.ensures) (ap room c.clear.ensures) (ap room c.clear-2.ensures)
