@@ -6,7 +6,7 @@ use Rattle.message.specs.Kinds.{same_kind}
 use Rattle.message.specs.declared.kind.Kind.TheVariants.{Ack}
 use Rattle.message.specs.declared.message.Message.{Message}
 use Rattle.message.specs.declared.reaction.Reaction.{Reaction}
-use Rattle.home.specs.Directories.{awaits}
+use Rattle.home.specs.Directories.{round_of, awaits}
 use Rattle.home.specs.Laws.{has_replied, FinishesAboveAll, HearsAll, RepliedAbove, RepliesAboveAll}
 use Rattle.home.specs.Reactions.{began, finished, asked, heard_home, after_hearing, acknowledged}
 use Rattle.home.specs.Requests.{request_of, operation_for}
@@ -67,9 +67,9 @@ at_ack h b m =
     let Q : Option (Reaction (Home ℕ)) → Type 0 = λ o. IfSome o (Above h m) in
     let k = heard_home h m.sender m.exclusive m.words m.clock in
     cond_both (awaits h.directory m.sender) (Some (after_hearing k b)) None Q
-    (λ _. cond_both (is_empty k.directory.awaited) (finished k b) (quiet k) (Above h m)
+    (λ _. cond_both (is_empty (round_of k.directory).awaited) (finished k b) (quiet k) (Above h m)
     (λ _. at_last h b m)
-    (λ _. neither _ (has_replied h)))
+    (λ _ _ r. neither _ false refl r))
     (λ _. tt)
 
 pub replies_above_all : RepliesAboveAll

@@ -9,7 +9,7 @@ use Rattle.message.specs.declared.reaction.Reaction.{Reaction}
 use Rattle.ordering.specs.declared.operation.Words.{Words}
 use Rattle.home.specs.Laws.{brings_words, does_write, ClockNeverGoesBack, WordsStay}
 use Rattle.home.specs.Plans.{plan}
-use Rattle.home.specs.Directories.{view, awaits}
+use Rattle.home.specs.Directories.{round_of, view, awaits}
 use Rattle.home.specs.Reactions.{finished, refused, asked, planned, heard_home, after_hearing, acknowledged, taken, received}
 use Rattle.home.specs.Requests.{request_of}
 use Rattle.home.specs.Sets.{is_empty}
@@ -60,7 +60,7 @@ hearing_keeps N h b p mark w c e =
     let k = heard_home h p mark w c in
     let same : N → k.words ≡ h.words = λ n. cond-false mark w h.words (e n) in
     cond_both (awaits h.directory p) (Some (after_hearing k b)) None Q
-    (λ _. cond_both (is_empty k.directory.awaited) (finished k b) (quiet k) P
+    (λ _. cond_both (is_empty (round_of k.directory).awaited) (finished k b) (quiet k) P
     (λ _ n d. finish_keeps k b d ∙ same n)
     (λ _ n _. same n))
     (λ _. tt)

@@ -15,13 +15,14 @@ use Rattle.ordering.specs.Words.{no_words}
 use Rattle.ordering.specs.declared.clock.Clock.{Clock}
 use Rattle.ordering.specs.declared.operation.Words.{Words}
 use Rattle.trail.specs.declared.entry.Entry.{Entry}
-use Rattle.home.specs.Directories.{view, asking, awaits, heard, replied, freed}
+use Rattle.home.specs.Directories.{round_of, view, asking, awaits, heard, replied, freed}
 use Rattle.home.specs.Homes.{home}
 use Rattle.home.specs.Plans.{plan}
 use Rattle.home.specs.Requests.{request_of, asks_by, reply_kind, carries_words, operation_for}
 use Rattle.home.specs.Sets.{nobody, has, is_empty}
 use Rattle.home.specs.declared.directory.Directory.{Directory}
 use Rattle.home.specs.declared.directory.Phase.TheVariants.{Free, Gathering, Replied}
+use Rattle.home.specs.declared.directory.Round.{Round}
 use Rattle.home.specs.declared.machine.Home.{Home}
 use Rattle.home.specs.declared.plan.Plan.{Plan}
 use Rattle.home.specs.declared.plan.Plan.TheVariants.{Nothing, Refuse, Ask}
@@ -30,11 +31,11 @@ use Rattle.home.specs.declared.request.Request.{Request}
 
 -- To finish, a home passes once the greatest clock that it heard and, for a device, the request's; then it does the
 -- device's operation.
-abbrev pub clock_after : Clock ℕ → Directory → Clock ℕ
-clock_after c d =
-    cond (is_some (operation_for d.request.kind))
-    (counted (passed c (max d.latest d.request.clock)))
-    (passed c d.latest)
+abbrev pub clock_after : Clock ℕ → Round → Clock ℕ
+clock_after c g =
+    cond (is_some (operation_for g.request.kind))
+    (counted (passed c (max g.latest g.request.clock)))
+    (passed c g.latest)
 
 -- Only STblk writes.
 abbrev pub words_after : Words → Request → Words
@@ -68,17 +69,20 @@ reply b r w c = record {
   refused = None;
 }
 
-abbrev pub finished_at : Clock ℕ → Words → Directory → ℕ → Reaction (Home ℕ)
-finished_at c w d b = record {
-  next = home c w (replied d);
-  sent = single (reply b d.request w c.global);
-  entry = entry_for b d.request w c;
+abbrev pub finished_at : Clock ℕ → Words → Directory → Request → ℕ → Reaction (Home ℕ)
+finished_at c w d r b = record {
+  next = home c w (replied d r);
+  sent = single (reply b r w c.global);
+  entry = entry_for b r w c;
   answer = None;
 }
 
--- All who were asked are heard.
+-- All who were asked are heard: g is what is under way.
+abbrev pub finished_in : Home ℕ → Round → ℕ → Reaction (Home ℕ)
+finished_in h g b = finished_at (clock_after h.clock g) (words_after h.words g.request) h.directory g.request b
+
 abbrev pub finished : Home ℕ → ℕ → Reaction (Home ℕ)
-finished h b = finished_at (clock_after h.clock h.directory) (words_after h.words h.directory.request) h.directory b
+finished h b = finished_in h (round_of h.directory) b
 
 -- The request goes back as it came, and nothing changes.
 abbrev pub nack : ℕ → Request → Message ℕ
@@ -125,13 +129,16 @@ planned h b r (Ask s) = Some (asked h b r s)
 abbrev pub requested : Home ℕ → ℕ → Request → Option (Reaction (Home ℕ))
 requested h b r = planned h b r (plan r.kind (view h.directory) h.directory.holders r.requester)
 
--- Processor p is heard; words under the exclusive mark are the block's words now.
+-- Processor p is heard while g is under way; words under the exclusive mark are the block's words now.
+abbrev pub heard_in : Home ℕ → Round → ℕ → Bool → Words → ℕ → Home ℕ
+heard_in h g p mark w c = home h.clock (cond mark w h.words) (heard h.directory g p c)
+
 abbrev pub heard_home : Home ℕ → ℕ → Bool → Words → ℕ → Home ℕ
-heard_home h p mark w c = home h.clock (cond mark w h.words) (heard h.directory p c)
+heard_home h p mark w c = heard_in h (round_of h.directory) p mark w c
 
 -- The last who is heard lets the home finish.
 abbrev pub after_hearing : Home ℕ → ℕ → Reaction (Home ℕ)
-after_hearing h b = cond (is_empty h.directory.awaited) (finished h b) (quiet h)
+after_hearing h b = cond (is_empty (round_of h.directory).awaited) (finished h b) (quiet h)
 
 abbrev pub acknowledged : Home ℕ → ℕ → ℕ → Bool → Words → ℕ → Option (Reaction (Home ℕ))
 acknowledged h b p mark w c = cond (awaits h.directory p) (Some (after_hearing (heard_home h p mark w c) b)) None
@@ -141,7 +148,7 @@ abbrev pub clock_freed : Clock ℕ → ℕ → Clock ℕ
 clock_freed c n = cond (is_device n) (passed c c.global) c
 
 abbrev pub awaits_taken : Directory → ℕ → Bool
-awaits_taken d n = elim d.phase [ Free ↦ false | Gathering ↦ false | Replied ↦ nat_eq d.request.requester n ]
+awaits_taken d n = elim d.phase [ Free ↦ false | Gathering g ↦ false | Replied r ↦ nat_eq r.requester n ]
 
 abbrev pub taken : Home ℕ → ℕ → Option (Reaction (Home ℕ))
 taken h n =

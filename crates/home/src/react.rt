@@ -1,9 +1,9 @@
 //! What a home does when a message reaches it.
 
 ghost use Rattle.std.specs.Prelude.{◌≡◌, ◌<◌, IfSome, None};
-ghost use Rattle.home.specs.Reactions.{clock_after, words_after, entry_for, reply, nack, finished, refused, ask_one, asks, asked, requested, heard_home, acknowledged, clock_freed, taken, received};
+ghost use Rattle.home.specs.Reactions.{clock_after, words_after, entry_for, reply, nack, finished_in, refused, ask_one, asks, asked, requested, heard_in, acknowledged, clock_freed, taken, received};
 
-use crate::directory::Phase;
+use crate::directory::{Phase, Round};
 use crate::machine::Home;
 use crate::plan::Plan;
 use crate::processors::Processors;
@@ -92,40 +92,39 @@ fn asks(kind: Kind, block: u32, holders: Processors) -> Outbox
 
 impl Home {
     // One passing of all that was heard; for a device then its operation.
-    fn clock_after(self) -> Clock<u64>
-        ensures { result ≡ clock_after self.clock self.directory }
+    fn clock_after(self, round: Round) -> Clock<u64>
+        ensures { result ≡ clock_after self.clock round }
     {
-        let latest = self.directory.latest;
-        if self.directory.request.operation().is_some() {
+        if round.request.operation().is_some() {
             return self
                 .clock
-                .passed_and_counted(latest.max(self.directory.request.clock));
+                .passed_and_counted(round.latest.max(round.request.clock));
         }
-        self.clock.passed(latest)
+        self.clock.passed(round.latest)
     }
 
-    fn words_after(self) -> Words
-        ensures { result ≡ words_after self.words self.directory.request }
+    fn words_after(self, request: Request) -> Words
+        ensures { result ≡ words_after self.words request }
     {
-        if self.directory.request.kind.is(Kind::Wblk) {
-            return self.directory.request.words;
+        if request.kind.is(Kind::Wblk) {
+            return request.words;
         }
         self.words
     }
 
     // All who were asked are heard: the operation and the reply.
-    fn finished(self, block: u32) -> Reaction<Home<u64>>
+    fn finished(self, block: u32, round: Round) -> Reaction<Home<u64>>
         requires { block < 16 }
-        ensures { result ≡ finished self block }
+        ensures { result ≡ finished_in self round block }
     {
-        let request = self.directory.request;
-        let clock = self.clock_after();
-        let words = self.words_after();
+        let request = round.request;
+        let clock = self.clock_after(round);
+        let words = self.words_after(request);
         Reaction {
             next: Home {
                 clock,
                 words,
-                directory: self.directory.replied(),
+                directory: self.directory.replied(request),
             },
             sent: Outbox::single(request.reply(block, words, clock.global)),
             entry: request.entry(block, words, clock),
@@ -150,11 +149,11 @@ impl Home {
         requires { block < 16 }
         ensures { result ≡ asked self block request holders }
     {
+        if holders.is_empty() {
+            return self.finished(block, Round::of(request, holders));
+        }
         let mut next = self;
         next.directory = self.directory.asking(request, holders);
-        if holders.is_empty() {
-            return next.finished(block);
-        }
         Reaction {
             next: next.wide(),
             sent: asks(request.asks_by(), block, holders),
@@ -182,14 +181,14 @@ impl Home {
     }
 
     // Marked words are the block's words now.
-    fn heard(self, processor: u32, mark: bool, words: Words, clock: u32) -> Home
-        ensures { result ≡ heard_home self processor mark words clock }
+    fn heard(self, round: Round, processor: u32, mark: bool, words: Words, clock: u32) -> Home
+        ensures { result ≡ heard_in self round processor mark words clock }
     {
         let mut next = self;
         if mark {
             next.words = words;
         }
-        next.directory = self.directory.heard(processor, clock);
+        next.directory = self.directory.heard(round, processor, clock);
         next
     }
 
@@ -204,12 +203,16 @@ impl Home {
         requires { block < 16 }
         ensures { result ≡ acknowledged self block processor mark words clock }
     {
-        if !self.directory.awaits(processor) {
+        let Phase::Gathering(round) = self.directory.phase else {
+            return None;
+        };
+        if !round.awaited.has(processor) {
             return None;
         }
-        let next = self.heard(processor, mark, words, clock);
-        if next.directory.awaited.is_empty() {
-            return Some(next.finished(block));
+        let next = self.heard(round, processor, mark, words, clock);
+        let round = round.heard(processor, clock);
+        if round.awaited.is_empty() {
+            return Some(next.finished(block, round));
         }
         Some(Reaction {
             next: next.wide(),
@@ -232,10 +235,10 @@ impl Home {
     fn taken(self, sender: u32) -> Option<Reaction<Home<u64>>>
         ensures { result ≡ taken self sender }
     {
-        let Phase::Replied = self.directory.phase else {
+        let Phase::Replied(request) = self.directory.phase else {
             return None;
         };
-        if self.directory.request.requester != sender {
+        if request.requester != sender {
             return None;
         }
         Some(Reaction {
