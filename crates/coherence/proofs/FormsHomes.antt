@@ -1,7 +1,7 @@
 -- What a home sends is well formed, and what it keeps stays so.
 use Rattle.std.proofs.Common.{◌≡◌, ℕ, ◌<◌, Bool, true, false, cond, ◌&&◌, ltb, leb, IfSome, Some, None, Option, refl, arith}
 use Rattle.home.proofs.Back.{one_more}
-use Rattle.home.specs.Directories.{view, awaits}
+use Rattle.home.specs.Directories.{round_of, view, awaits}
 use Rattle.home.specs.Laws.{is_free}
 use Rattle.home.specs.Plans.{plan}
 use Rattle.home.specs.Reactions.{clock_after, words_after, reply, finished, nack, ask_one, asks, began, asked, planned, heard_home, after_hearing, acknowledged, awaits_taken, taken, received}
@@ -107,15 +107,15 @@ module _ (f : Figures) (b : ℕ) (small : b < 16) where
   finish_good k well busy = record {
     next = record {
       holders =
-          cond_both (gives_copy k.directory.request.kind) (with_member k.directory.holders k.directory.request.requester true) k.directory.holders (OnBoard f)
-          (λ gives. one_more_on_board f k.directory.holders k.directory.request.requester (copy_goes_to_processor f b k.directory.request (well.request busy) gives) well.holders)
+          cond_both (gives_copy (round_of k.directory).request.kind) (with_member k.directory.holders (round_of k.directory).request.requester true) k.directory.holders (OnBoard f)
+          (λ gives. one_more_on_board f k.directory.holders (round_of k.directory).request.requester (copy_goes_to_processor f b (round_of k.directory).request (well.request busy) gives) well.holders)
           (λ _. well.holders);
       awaited = nobody_on_board f;
       request = λ _. well.request busy;
     };
     sends = λ within. (
-      reply_well k.directory.request (words_after k.words k.directory.request) (clock_after k.clock k.directory).global (well.request busy)
-          (global_within (clock_after k.clock k.directory) within),
+      reply_well (round_of k.directory).request (words_after k.words (round_of k.directory).request) (clock_after k.clock (round_of k.directory)).global (well.request busy)
+          (global_within (clock_after k.clock (round_of k.directory)) within),
       tt,
     );
   }
@@ -135,10 +135,10 @@ module _ (f : Figures) (b : ℕ) (small : b < 16) where
   heard_good : (h : Home ℕ) (p : ℕ) (mark : Bool) (w : Words) (c : ℕ) → HomeWell f b h → is_free h ≡ false → HomeWell f b (heard_home h p mark w c)
   heard_good h p mark w c well busy = record {
     holders =
-        cond_both (asks_down h.directory.request.kind) h.directory.holders (with_member h.directory.holders p false) (OnBoard f)
+        cond_both (asks_down (round_of h.directory).request.kind) h.directory.holders (with_member h.directory.holders p false) (OnBoard f)
         (λ _. well.holders)
         (λ _ q e. well.holders q (fewer h.directory.holders p q e));
-    awaited = λ q e. well.awaited q (fewer h.directory.awaited p q e);
+    awaited = λ q e. well.awaited q (fewer (round_of h.directory).awaited p q e);
     request = λ _. well.request busy;
   }
 
@@ -148,7 +148,7 @@ module _ (f : Figures) (b : ℕ) (small : b < 16) where
       (λ waits.
       let busy = busy_if_awaiting h p waits in
       let heard = heard_good h p mark w c well busy in
-      cond_both (is_empty k.directory.awaited) (finished k b) (quiet k) (HomeGood f b) (λ _. finish_good k heard busy) (λ _. record { next = heard; sends = λ _. tt }))
+      cond_both (is_empty (round_of k.directory).awaited) (finished k b) (quiet k) (HomeGood f b) (λ _. finish_good k heard refl) (λ _. record { next = heard; sends = λ _. tt }))
       (λ _. tt)
     where
       k : Home ℕ
@@ -158,7 +158,7 @@ module _ (f : Figures) (b : ℕ) (small : b < 16) where
   taken_good h n well =
       cond_both (awaits_taken h.directory n) _ None (λ (o : Option (Reaction (Home ℕ))). IfSome o (HomeGood f b))
       (λ _. record {
-        next = record { holders = well.holders; awaited = well.awaited; request = λ no. absurd (both_ways true no refl) };
+        next = record { holders = well.holders; awaited = nobody_on_board f; request = λ no. absurd (both_ways true no refl) };
         sends = λ _. tt;
       })
       (λ _. tt)

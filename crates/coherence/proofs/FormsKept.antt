@@ -1,5 +1,6 @@
 -- What a home keeps is well formed: the request that it has taken, and holders and awaited that are the board's.
 use Rattle.std.proofs.Common.{◌≡◌, ℕ, zero, suc, Bool, true, false, None, Option, sym, refl, ◌∙◌, subst, ⊎_elim, arith}
+use Rattle.home.specs.Directories.{round_of}
 use Rattle.home.specs.Laws.{is_free}
 use Rattle.home.specs.Plans.{plan, column, newcomer, holder, at_once, ask_others}
 use Rattle.home.specs.Requests.{request_of, gives_copy}
@@ -48,8 +49,8 @@ OnBoard f s = (p : ℕ) → has s p ≡ true → has_processor f p ≡ true
 
 pub record HomeWell (f : Figures) (b : ℕ) (h : Home ℕ) : Type 0 where
   pub holders : OnBoard f h.directory.holders
-  pub awaited : OnBoard f h.directory.awaited
-  pub request : is_free h ≡ false → RequestWell f b h.directory.request
+  pub awaited : OnBoard f (round_of h.directory).awaited
+  pub request : is_free h ≡ false → RequestWell f b (round_of h.directory).request
 
 request_row : (k : Kind) → is_request k ≡ true → same_kind k kind.Nack ≡ false
 request_row k h = grind (arith, nat_tests)

@@ -2,7 +2,7 @@
 use Rattle.std.proofs.Common.{◌≡◌, ℕ, true, false, ◌||◌, eqb, [], IfSome, Some, None, filter, Option, sym, refl, ◌∙◌, subst, arith}
 use Rattle.home.proofs.Back.{one_more}
 use Rattle.home.proofs.Keeps.{by_rule}
-use Rattle.home.specs.Directories.{view, awaits}
+use Rattle.home.specs.Directories.{round_of, view, awaits}
 use Rattle.home.specs.Plans.{plan}
 use Rattle.home.specs.Reactions.{finished, ask_one, asks, began, heard_home, after_hearing, awaits_taken, received}
 use Rattle.home.specs.Requests.{request_of, asks_by, reply_kind}
@@ -46,7 +46,7 @@ sends_own : (a : ℕ) (h : Home ℕ) (m : Message ℕ) → IfSome (received h a 
 sends_own a h m =
     by_rule Own h a m
     (λ _. cond_both (awaits h.directory m.sender) (Some (after_hearing k a)) None Found
-    (λ _. cond_both (is_empty k.directory.awaited) (finished k a) (quiet k) Own (λ _. (refl, tt)) (λ _. tt))
+    (λ _. cond_both (is_empty (round_of k.directory).awaited) (finished k a) (quiet k) Own (λ _. (refl, tt)) (λ _. tt))
     (λ _. tt))
     (cond_both (awaits_taken h.directory m.sender) _ None Found (λ _. tt) (λ _. tt))
     (refl, tt)
@@ -103,5 +103,5 @@ asks_if_free d k s p is = go d.phase refl
 
     go : (f : Phase) → d.phase ≡ f → d.phase ≡ Free
     go Free at = at
-    go Gathering at = absurd (busy (rw at refl))
-    go Replied at = absurd (busy (rw at refl))
+    go (Gathering g) at = absurd (busy (rw at refl))
+    go (Replied r) at = absurd (busy (rw at refl))

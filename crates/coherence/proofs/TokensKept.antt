@@ -52,7 +52,6 @@ undisturbed x y t lines outs home messages = record {
   holders_four = rw home t.holders_four;
   awaited_four = rw home t.awaited_four;
   asks = rw home t.asks;
-  latest = rw home t.latest;
   clocks = rw (home, messages) t.clocks;
 }
 
@@ -115,7 +114,6 @@ quiet x lines outs new none = record {
   holders_four = rw new refl;
   awaited_four = rw new refl;
   asks = rw new (λ is. absurd (false≢true is));
-  latest = rw new (λ _. refl);
   clocks = rw none tt;
 }
   where

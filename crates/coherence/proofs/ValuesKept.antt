@@ -2,6 +2,7 @@
 -- what stands in the block.
 use Rattle.std.proofs.Common.{◌≡◌, ℕ, zero, suc, ◌+◌, ◌*◌, ◌<◌, [], ◌∷◌, ◌++◌, length, get_or, sym, refl, ap, ◌∙◌, subst, inl, arith}
 use Rattle.device.specs.Meaning.{Meaning}
+use Rattle.home.specs.Directories.{round_of}
 use Rattle.home.specs.Homes.{new_home}
 use Rattle.home.specs.declared.machine.Home.{Home}
 use Rattle.message.specs.Kinds.{kind_number}
@@ -115,7 +116,7 @@ module _ {A B : Type 0} (ma : Meaning A) (mb : Meaning B) (k : Making A B) where
     home = λ _ i low. ap (λ (h : Home ℕ). get_or h.words.at i 0) new ∙ at_start b i low;
     carried = tt;
     four = tt;
-    request_four = ap (λ (h : Home ℕ). length h.directory.request.words.at) new;
+    request_four = ap (λ (h : Home ℕ). length (round_of h.directory).request.words.at) new;
   }
     where
       new : (block b (make ma mb k)).home ≡ new_home k.clock (block_words k.words b)
