@@ -58,9 +58,9 @@ impl Round {
         ensures { result ≡ heard_round self processor clock }
     {
         Round {
-            request: self.request,
             awaited: self.awaited.with(processor, false),
             latest: self.latest.max(clock),
+            ..self
         }
     }
 }
@@ -85,9 +85,10 @@ impl Directory {
     pub(crate) fn asking(self, request: Request, asked: Processors) -> Directory
         ensures { result ≡ asking self request asked }
     {
-        let mut next = self;
-        next.phase = Phase::Gathering(Round::of(request, asked));
-        next
+        Directory {
+            phase: Phase::Gathering(Round::of(request, asked)),
+            ..self
+        }
     }
 
     /// The processor is heard: it holds no copy now, or after DOWN a shared one.
@@ -122,8 +123,9 @@ impl Directory {
     pub(crate) fn freed(self) -> Directory
         ensures { result ≡ freed self }
     {
-        let mut next = self;
-        next.phase = Phase::Free;
-        next
+        Directory {
+            phase: Phase::Free,
+            ..self
+        }
     }
 }

@@ -69,10 +69,9 @@ fn ask_one(kind: Kind, block: u32, holders: Processors, processor: u32) -> Optio
     requires { block < 16 }
     ensures { result ≡ ask_one kind block holders processor }
 {
-    if !holders.has(processor) {
-        return None;
-    }
-    Some(Message::plain(kind, 16 + block, processor, block))
+    holders
+        .has(processor)
+        .then(|| Message::plain(kind, 16 + block, processor, block))
 }
 
 // In rising order of the processors.
@@ -81,12 +80,7 @@ fn asks(kind: Kind, block: u32, holders: Processors) -> Outbox
     ensures { result ≡ asks kind block holders }
 {
     Outbox {
-        at: [
-            ask_one(kind, block, holders, 0),
-            ask_one(kind, block, holders, 1),
-            ask_one(kind, block, holders, 2),
-            ask_one(kind, block, holders, 3),
-        ],
+        at: [0, 1, 2, 3].map(|processor| ask_one(kind, block, holders, processor)),
     }
 }
 
@@ -106,7 +100,7 @@ impl Home {
     fn words_after(self, request: Request) -> Words
         ensures { result ≡ words_after self.words request }
     {
-        if request.kind.is(Kind::Wblk) {
+        if let Kind::Wblk = request.kind {
             return request.words;
         }
         self.words
@@ -152,8 +146,10 @@ impl Home {
         if holders.is_empty() {
             return self.finished(block, Round::of(request, holders));
         }
-        let mut next = self;
-        next.directory = self.directory.asking(request, holders);
+        let next = Home {
+            directory: self.directory.asking(request, holders),
+            ..self
+        };
         Reaction {
             next: next.wide(),
             sent: asks(request.asks_by(), block, holders),
