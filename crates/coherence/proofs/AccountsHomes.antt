@@ -79,9 +79,9 @@ module _ (K : Issued → Type 0) where
       held_known : gathers h ≡ true → RequestKnown b (round_of h.directory).request
       held_known busy n q asking = held n q (serves_as n q b h busy ∙ asking)
 
-      at_ack : IfSome (acknowledged h b m.sender m.exclusive m.words m.clock) (HomeAccounts b)
+      at_ack : IfSome (acknowledged h b m) (HomeAccounts b)
       at_ack =
-          let k = heard_home h m.sender m.exclusive m.words m.clock in
+          let k = heard_home h m in
           cond_both (awaits h.directory m.sender) (Some (after_hearing k b)) None (λ (o : Option (Reaction (Home ℕ))). IfSome o (HomeAccounts b))
           (λ waits.
           let known = held_known (gathers_so h m.sender waits) in

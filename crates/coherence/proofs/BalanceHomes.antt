@@ -32,7 +32,7 @@ busy_asks_nobody : (h : Home ℕ) (k : Kind) (p : ℕ) (s : Processors) → plan
 busy_asks_nobody h k p s is = grind (arith, nat_tests)
 
 pub by_request : (P : Reaction (Home ℕ) → Type 0) (h : Home ℕ) (b : ℕ) (m : Message ℕ)
-    → (same_kind m.kind Ack ≡ true → IfSome (acknowledged h b m.sender m.exclusive m.words m.clock) P)
+    → (same_kind m.kind Ack ≡ true → IfSome (acknowledged h b m) P)
     → (same_kind m.kind Taken ≡ true → IfSome (taken h m.sender) P)
     → (is_request m.kind ≡ true → P (refused h b (request_of m)))
     → (is_request m.kind ≡ true → gathers h ≡ false → (s : Processors) → P (asked h b (request_of m) s))
@@ -99,9 +99,9 @@ module _ (n q b : ℕ) where
   serves_none : (h : Home ℕ) → gathers h ≡ false → serves n q h ≡ false
   serves_none h is = rw is refl
 
-  ack_number : (h : Home ℕ) (m : Message ℕ) → same_kind m.kind Ack ≡ true → IfSome (acknowledged h b m.sender m.exclusive m.words m.clock) (Counts h m)
+  ack_number : (h : Home ℕ) (m : Message ℕ) → same_kind m.kind Ack ≡ true → IfSome (acknowledged h b m) (Counts h m)
   ack_number h m is =
-      let k = heard_home h m.sender m.exclusive m.words m.clock in
+      let k = heard_home h m in
       let none = ap indicator (ack_carries m is) in
       cond_both (awaits h.directory m.sender) (Some (after_hearing k b)) None (λ (o : Option (Reaction (Home ℕ))). IfSome o (Counts h m))
       (λ waits.

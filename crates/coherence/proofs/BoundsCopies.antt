@@ -237,7 +237,10 @@ module _ (b : ℕ) (x y : Block) (p : ℕ) (k : Kind) (old new : Line) (c : ℕ)
   takes_bounds bounds = subst (All (Bounded y.line y.clock y.home y.messages)) (sym r.trail) (All-weaker _ _ takes_bounded x.trail bounds)
 
 -- The home hears an acknowledgement: what loses its exception is below it.
-module _ (b : ℕ) (x y : Block) (p : ℕ) (m : Message ℕ) (r : Hears b x y p m) where
+module _ (b : ℕ) (x y : Block) (m : Message ℕ) (r : Hears b x y m) where
+  abbrev p : ℕ
+  p = m.sender
+
   latest : bound y.home ≡ max x.home.clock.global (max (round_of x.home.directory).latest m.clock)
   latest = ap bound r.home
 

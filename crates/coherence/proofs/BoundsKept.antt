@@ -123,7 +123,7 @@ module _ (b : ℕ) (x y : Block) (t : Tokens x) (bounds : Bounds x) where
   bounds_moved (again n k m a is r) = returns_bounds b x y n _ _ m a (refusal_class k is) (request_class k is) bounds r
   bounds_moved (refuses n k m a is r) = returns_bounds b x y n _ _ m a (request_class k is) (refusal_class k is) bounds r
   bounds_moved (asks_holders m t' s r) = asks_bounds b x y m t' s bounds r
-  bounds_moved (hears p m r) = copies.hears_bounds b x y p m r bounds
+  bounds_moved (hears m r) = copies.hears_bounds b x y m r bounds
   bounds_moved (finishes r) = finishes_bounds b x y t bounds r
   bounds_moved (frees n m r) = frees_bounds b x y n m bounds r
 
@@ -152,7 +152,7 @@ module _ (b : ℕ) (x y : Block) (t : Tokens x) (bounds : Bounds x) where
     fresh_moved (again n k m a is r) = not_still r.trail
     fresh_moved (refuses n k m a is r) = not_still r.trail
     fresh_moved (asks_holders m t' s r) = not_still r.trail
-    fresh_moved (hears p m r) = not_still r.trail
+    fresh_moved (hears m r) = not_still r.trail
     fresh_moved (frees n m r) = not_still r.trail
     fresh_moved (finishes r) = go (finished x.home b).entry refl
       where

@@ -114,7 +114,7 @@ module _ (b : ℕ) (h : Home ℕ) (m : Message ℕ) (at : m.place ≡ b) where
 
   -- ACK lets the home go on, or finish
   abbrev heard : Home ℕ
-  heard = heard_home h m.sender m.exclusive m.words m.clock
+  heard = heard_home h m
 
   served : (e : Entry) → gathers h ≡ true → is_block_request (round_of h.directory).request.kind ≡ true → e.party ≡ (round_of h.directory).request.requester → e.sequence ≡ (round_of h.directory).request.sequence
       → serves e.party e.sequence h ≡ true

@@ -132,27 +132,27 @@ module _ (f : Figures) (b : ℕ) (small : b < 16) where
   busy_if_awaiting : (h : Home ℕ) (p : ℕ) → awaits h.directory p ≡ true → is_free h ≡ false
   busy_if_awaiting h p e = grind (arith, nat_tests)
 
-  heard_good : (h : Home ℕ) (p : ℕ) (mark : Bool) (w : Words) (c : ℕ) → HomeWell f b h → is_free h ≡ false → HomeWell f b (heard_home h p mark w c)
-  heard_good h p mark w c well busy = record {
+  heard_good : (h : Home ℕ) (m : Message ℕ) → HomeWell f b h → is_free h ≡ false → HomeWell f b (heard_home h m)
+  heard_good h m well busy = record {
     holders =
-        cond_both (asks_down (round_of h.directory).request.kind) h.directory.holders (with_member h.directory.holders p false) (OnBoard f)
+        cond_both (asks_down (round_of h.directory).request.kind) h.directory.holders (with_member h.directory.holders m.sender false) (OnBoard f)
         (λ _. well.holders)
-        (λ _ q e. well.holders q (fewer h.directory.holders p q e));
-    awaited = λ q e. well.awaited q (fewer (round_of h.directory).awaited p q e);
+        (λ _ q e. well.holders q (fewer h.directory.holders m.sender q e));
+    awaited = λ q e. well.awaited q (fewer (round_of h.directory).awaited m.sender q e);
     request = λ _. well.request busy;
   }
 
-  ack_good : (h : Home ℕ) (p : ℕ) (mark : Bool) (w : Words) (c : ℕ) → HomeWell f b h → IfSome (acknowledged h b p mark w c) (HomeGood f b)
-  ack_good h p mark w c well =
-      cond_both (awaits h.directory p) (Some (after_hearing k b)) None (λ (o : Option (Reaction (Home ℕ))). IfSome o (HomeGood f b))
+  ack_good : (h : Home ℕ) (m : Message ℕ) → HomeWell f b h → IfSome (acknowledged h b m) (HomeGood f b)
+  ack_good h m well =
+      cond_both (awaits h.directory m.sender) (Some (after_hearing k b)) None (λ (o : Option (Reaction (Home ℕ))). IfSome o (HomeGood f b))
       (λ waits.
-      let busy = busy_if_awaiting h p waits in
-      let heard = heard_good h p mark w c well busy in
+      let busy = busy_if_awaiting h m.sender waits in
+      let heard = heard_good h m well busy in
       cond_both (is_empty (round_of k.directory).awaited) (finished k b) (quiet k) (HomeGood f b) (λ _. finish_good k heard refl) (λ _. record { next = heard; sends = λ _. tt }))
       (λ _. tt)
     where
       k : Home ℕ
-      k = heard_home h p mark w c
+      k = heard_home h m
 
   taken_good : (h : Home ℕ) (n : ℕ) → HomeWell f b h → IfSome (taken h n) (HomeGood f b)
   taken_good h n well =
@@ -174,7 +174,7 @@ module _ (f : Figures) (b : ℕ) (small : b < 16) where
       let Q : Option (Reaction (Home ℕ)) → Type 0 = λ o. IfSome o (HomeGood f b) in
       cond_both (ltb b 16) _ None Q
       (λ _. cond_both (same_kind m.kind kind.Ack) _ _ Q
-      (λ _. ack_good h m.sender m.exclusive m.words m.clock well)
+      (λ _. ack_good h m well)
       (λ _. cond_both (same_kind m.kind kind.Taken) _ _ Q
       (λ _. taken_good h m.sender well)
       (λ _. planned_good h m (plan m.kind (view h.directory) h.directory.holders m.sender) well form to (plan_good m.kind (view h.directory) h.directory.holders m.sender))))

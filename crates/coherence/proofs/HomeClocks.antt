@@ -88,7 +88,7 @@ home_timely h b m =
     (λ _ s. cond_both (is_empty s) (finished (began h (request_of m)) b) _ (HomeTimely h.clock b) (λ _. finishes (began h (request_of m)) b) (λ _. rests h.clock b _ refl (inl refl)))
   where
     k : Home ℕ
-    k = heard_home h m.sender m.exclusive m.words m.clock
+    k = heard_home h m
 
     Found : Option (Reaction (Home ℕ)) → Type 0
     Found o = IfSome o (HomeTimely h.clock b)

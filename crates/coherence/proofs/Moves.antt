@@ -181,16 +181,16 @@ module _ (b : ℕ) (x y : Block) where
     pub messages : Posted x.messages (m ∷ []) (sent (asks (asks_by m.kind) b s)) y.messages
     pub trail : y.trail ≡ x.trail
 
-  -- The home hears the acknowledgement m of processor p.
-  pub record Hears (p : ℕ) (m : Message ℕ) : Type 0 where
-    pub small : p < 4
-    pub awaited : awaits x.home.directory p ≡ true
+  -- The home hears the acknowledgement m.
+  pub record Hears (m : Message ℕ) : Type 0 where
+    pub small : m.sender < 4
+    pub awaited : awaits x.home.directory m.sender ≡ true
     pub class : token m ≡ cond m.exclusive marked_ack (kind_number kind.Ack)
-    pub end : peer m ≡ p
+    pub end : peer m ≡ m.sender
     pub lines : LinesStay
     pub outs : OutsStay
     pub clocks : ClocksStay
-    pub home : y.home ≡ heard_home x.home p m.exclusive m.words m.clock
+    pub home : y.home ≡ heard_home x.home m
     pub messages : Posted x.messages (m ∷ []) [] y.messages
     pub trail : y.trail ≡ x.trail
 
@@ -236,7 +236,7 @@ module _ (b : ℕ) (x y : Block) where
     again : (n : ℕ) (k : Kind) (m a : Message ℕ) → is_request k ≡ true → Returns n (refusal_of k) (kind_number k) m a → Moves
     refuses : (n : ℕ) (k : Kind) (m a : Message ℕ) → is_request k ≡ true → Returns n (kind_number k) (refusal_of k) m a → Moves
     asks_holders : (m : Message ℕ) (t s : Processors) → AsksHolders m t s → Moves
-    hears : (p : ℕ) (m : Message ℕ) → Hears p m → Moves
+    hears : (m : Message ℕ) → Hears m → Moves
     finishes : Finishes → Moves
     frees : (n : ℕ) (m : Message ℕ) → Frees n m → Moves
 

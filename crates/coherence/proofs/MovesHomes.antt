@@ -59,7 +59,7 @@ sends_own a h m =
     Found o = IfSome o Own
 
     k : Home ℕ
-    k = heard_home h m.sender m.exclusive m.words m.clock
+    k = heard_home h m
 
 -- So it is about no other block, and neither is what it does.
 module _ (a b : ℕ) (apart : a ≡ b → ⊥) (h : Home ℕ) (m : Message ℕ) (r : Reaction (Home ℕ)) (is : received h a m ≡ Some r) where

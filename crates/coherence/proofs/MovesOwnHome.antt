@@ -120,11 +120,11 @@ module _ {A B : Type 0} (w : World A B) (shape : Shape w) (b : ℕ) (low : b < 1
   ack_class : m.kind ≡ kind.Ack → token m ≡ cond m.exclusive marked_ack 12
   ack_class at = rw at refl
 
-  ack_moves : (r : Reaction (Home ℕ)) → m.kind ≡ kind.Ack → acknowledged h b m.sender m.exclusive m.words m.clock ≡ Some r → Passes b x (y r)
+  ack_moves : (r : Reaction (Home ℕ)) → m.kind ≡ kind.Ack → acknowledged h b m ≡ Some r → Passes b x (y r)
   ack_moves r at heard = go (is_empty (round_of k.directory).awaited) refl same.1
     where
       k : Home ℕ
-      k = heard_home h m.sender m.exclusive m.words m.clock
+      k = heard_home h m
 
       same : (awaits h.directory m.sender ≡ true) × (Some (after_hearing k b) ≡ Some r)
       same = allowed (awaits h.directory m.sender) (Some (after_hearing k b)) r heard
@@ -134,7 +134,7 @@ module _ {A B : Type 0} (w : World A B) (shape : Shape w) (b : ℕ) (low : b < 1
 
       hear : (v : Block) → ((q : ℕ) → v.line q ≡ x.line q) → ((q : ℕ) → v.out q ≡ x.out q) → ((q : ℕ) → v.clock q ≡ x.clock q) → v.home ≡ k
           → Posted x.messages (m ∷ []) [] v.messages → v.trail ≡ x.trail → Moves b x v
-      hear v lines outs clocks at_home post trail = hears m.sender m (record {
+      hear v lines outs clocks at_home post trail = hears m (record {
         small = acks at;
         awaited = same.0;
         class = ack_class at;
@@ -252,7 +252,7 @@ module _ {A B : Type 0} (w : World A B) (shape : Shape w) (b : ℕ) (low : b < 1
       by_taken false at done = request_moves r done
 
       by_ack : (t : Bool) → same_kind m.kind kind.Ack ≡ t
-          → cond t (acknowledged h b m.sender m.exclusive m.words m.clock) (cond (same_kind m.kind kind.Taken) (taken h m.sender) (requested h b (request_of m))) ≡ Some r
+          → cond t (acknowledged h b m) (cond (same_kind m.kind kind.Taken) (taken h m.sender) (requested h b (request_of m))) ≡ Some r
           → Passes b x (y r)
       by_ack true at done = ack_moves r (numbers_tell_kinds m.kind kind.Ack at) done
       by_ack false at done = by_taken (same_kind m.kind kind.Taken) refl done

@@ -82,7 +82,7 @@ module _ (p : Message ℕ → Bool) (b : ℕ) where
       → IfSome (received h b m) (λ r. count p (sent r.sent) ≡ 0)
   home_uncounted unasked none h m back =
       let P : Reaction (Home ℕ) → Type 0 = λ r. count p (sent r.sent) ≡ 0 in
-      let k = heard_home h m.sender m.exclusive m.words m.clock in
+      let k = heard_home h m in
       by_rule P h b m
       (λ _. cond_both (awaits h.directory m.sender) _ None (λ (o : Option (Reaction (Home ℕ))). IfSome o P)
       (λ _. cond_both (is_empty (round_of k.directory).awaited) (finished k b) (quiet k) P (λ _. reply_uncounted none k) (λ _. count_none p))

@@ -45,7 +45,10 @@ kept_four : (d : Bool) (s : Processors) (p : ℕ) → length s.at ≡ 4 → leng
 kept_four true s p four = four
 kept_four false s p four = length-set s.at p false ∙ four
 
-module _ (b : ℕ) (x y : Block) (t : Tokens x) (p : ℕ) (m : Message ℕ) (g : Hears b x y p m) where
+module _ (b : ℕ) (x y : Block) (t : Tokens x) (m : Message ℕ) (g : Hears b x y m) where
+  abbrev p : ℕ
+  p = m.sender
+
   heard : (has_replied x.home ≡ false) × (gathers x.home ≡ true) × (has (round_of x.home.directory).awaited p ≡ true)
   heard = hearing x.home p g.awaited
 

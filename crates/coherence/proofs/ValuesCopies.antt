@@ -105,8 +105,8 @@ module _ (b : ℕ) (start : Address → ℕ) (x y : Block) (v : Values b start x
   brought p k old new c m r bring = (posted_gone (Data stands) x.messages (m ∷ []) _ y.messages r.messages v.carried).0 (ap carries r.class ∙ bring)
 
   -- The home hears an acknowledgement: words under the mark are those that stand there, and without it nothing is new.
-  pub hears_values : (p : ℕ) (m : Message ℕ) → Hears b x y p m → Values b start y
-  hears_values p m r =
+  pub hears_values : (m : Message ℕ) → Hears b x y m → Values b start y
+  hears_values m r =
       values_along b start x y r.trail (record {
         copies = λ q ws is. v.copies q ws (sym (ap held_words (r.lines q)) ∙ is);
         home_four = ap (λ (h : Home ℕ). length h.words.at) r.home ∙ four m.exclusive;

@@ -67,7 +67,7 @@ module _ (b : ℕ) (start : Address → ℕ) (x y : Block) (t : Tokens x) (v : V
   values_moved (again n k m a is g) = returns_values b start x y v n (refusal_of k) (kind_number k) m a (refusal_bare k is) (request_bare k is) g
   values_moved (refuses n k m a is g) = returns_values b start x y v n (kind_number k) (refusal_of k) m a (request_bare k is) (refusal_bare k is) g
   values_moved (asks_holders m planned asked g) = asks_values b start x y v m planned asked g
-  values_moved (hears p m g) = hears_values b start x y v p m g
+  values_moved (hears m g) = hears_values b start x y v m g
   values_moved (finishes g) = finishes_values b start x y t v g
   values_moved (frees n m g) = frees_values b start x y v n m g
 
@@ -96,7 +96,7 @@ module _ (b : ℕ) (start : Address → ℕ) (x y : Block) (t : Tokens x) (v : V
       go (again n k m a is g) = quiet g.trail
       go (refuses n k m a is g) = quiet g.trail
       go (asks_holders m planned asked g) = quiet g.trail
-      go (hears p m g) = quiet g.trail
+      go (hears m g) = quiet g.trail
       go (finishes g) = finishes_reads b start x y t v g e added
       go (frees n m g) = quiet g.trail
 

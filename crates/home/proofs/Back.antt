@@ -46,10 +46,10 @@ Back h b m x = All (λ n. same_kind n.kind Nack ≡ true → GivenBack h b m x n
 at_finish : (h k : Home ℕ) (b : ℕ) (m : Message ℕ) → Back h b m (finished k b)
 at_finish h k b m = (never _ _ (no_reply (round_of k.directory).request.kind), tt)
 
-at_ack : (h : Home ℕ) (b : ℕ) (m : Message ℕ) → IfSome (acknowledged h b m.sender m.exclusive m.words m.clock) (Back h b m)
+at_ack : (h : Home ℕ) (b : ℕ) (m : Message ℕ) → IfSome (acknowledged h b m) (Back h b m)
 at_ack h b m =
     let Q : Option (Reaction (Home ℕ)) → Type 0 = λ o. IfSome o (Back h b m) in
-    let k = heard_home h m.sender m.exclusive m.words m.clock in
+    let k = heard_home h m in
     cond_both (awaits h.directory m.sender) (Some (after_hearing k b)) None Q
     (λ _. cond_both (is_empty (round_of k.directory).awaited) (finished k b) (quiet k) (Back h b m) (λ _. at_finish h k b m) (λ _. tt))
     (λ _. tt)

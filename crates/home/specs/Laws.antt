@@ -7,7 +7,6 @@ use Rattle.message.specs.declared.kind.Kind.TheVariants.{Upg, Rblk, Wblk, Ack, N
 use Rattle.message.specs.declared.message.Message.{Message}
 use Rattle.message.specs.declared.reaction.Reaction.{Reaction}
 use Rattle.ordering.specs.Operations.{is_write}
-use Rattle.ordering.specs.declared.operation.Words.{Words}
 use Rattle.std.specs.List.{AllByRecursion}
 use Rattle.home.specs.Directories.{round_of}
 use Rattle.home.specs.Plans.{plan}
@@ -94,14 +93,14 @@ abbrev pub FinishesAboveAll : Type 0
 FinishesAboveAll = (h : Home ℕ) (b : ℕ) → PassedOnce h (finished h b)
 
 -- What is heard is kept until then: the greatest clock, and the words of an owner.
-pub record Kept (h : Home ℕ) (mark : Bool) (w : Words) (c : ℕ) (k : Home ℕ) : Type 0 where
+pub record Kept (h : Home ℕ) (m : Message ℕ) (k : Home ℕ) : Type 0 where
   pub earlier : (round_of h.directory).latest ≤ (round_of k.directory).latest
-  pub this : c ≤ (round_of k.directory).latest
-  pub marked : mark ≡ true → k.words ≡ w
-  pub unmarked : mark ≡ false → k.words ≡ h.words
+  pub this : m.clock ≤ (round_of k.directory).latest
+  pub marked : m.exclusive ≡ true → k.words ≡ m.words
+  pub unmarked : m.exclusive ≡ false → k.words ≡ h.words
 
 abbrev pub HearsAll : Type 0
-HearsAll = (h : Home ℕ) (p : ℕ) (mark : Bool) (w : Words) (c : ℕ) → Kept h mark w c (heard_home h p mark w c)
+HearsAll = (h : Home ℕ) (m : Message ℕ) → Kept h m (heard_home h m)
 
 -- So whenever a home replies, the reply is above its own clock, above this message's and above those heard before it.
 abbrev pub has_replied : Home ℕ → Bool

@@ -129,19 +129,19 @@ planned h b r (Ask s) = Some (asked h b r s)
 abbrev pub requested : Home ℕ → ℕ → Request → Option (Reaction (Home ℕ))
 requested h b r = planned h b r (plan r.kind (view h.directory) h.directory.holders r.requester)
 
--- Processor p is heard while g is under way; words under the exclusive mark are the block's words now.
-abbrev pub heard_in : Home ℕ → Round → ℕ → Bool → Words → ℕ → Home ℕ
-heard_in h g p mark w c = home h.clock (cond mark w h.words) (heard h.directory g p c)
+-- The sender of m is heard while g is under way; words under the exclusive mark are the block's words now.
+abbrev pub heard_in : Home ℕ → Round → Message ℕ → Home ℕ
+heard_in h g m = home h.clock (cond m.exclusive m.words h.words) (heard h.directory g m.sender m.clock)
 
-abbrev pub heard_home : Home ℕ → ℕ → Bool → Words → ℕ → Home ℕ
-heard_home h p mark w c = heard_in h (round_of h.directory) p mark w c
+abbrev pub heard_home : Home ℕ → Message ℕ → Home ℕ
+heard_home h m = heard_in h (round_of h.directory) m
 
 -- The last who is heard lets the home finish.
 abbrev pub after_hearing : Home ℕ → ℕ → Reaction (Home ℕ)
 after_hearing h b = cond (is_empty (round_of h.directory).awaited) (finished h b) (quiet h)
 
-abbrev pub acknowledged : Home ℕ → ℕ → ℕ → Bool → Words → ℕ → Option (Reaction (Home ℕ))
-acknowledged h b p mark w c = cond (awaits h.directory p) (Some (after_hearing (heard_home h p mark w c) b)) None
+abbrev pub acknowledged : Home ℕ → ℕ → Message ℕ → Option (Reaction (Home ℕ))
+acknowledged h b m = cond (awaits h.directory m.sender) (Some (after_hearing (heard_home h m) b)) None
 
 -- A device's TAKEN makes the home pass its own global, a processor's moves no clock.
 abbrev pub clock_freed : Clock ℕ → ℕ → Clock ℕ
@@ -158,7 +158,7 @@ taken h n =
 abbrev pub received : Home ℕ → ℕ → Message ℕ → Option (Reaction (Home ℕ))
 received h b m =
     cond (nat_lt b 16)
-    (cond (same_kind m.kind Ack) (acknowledged h b m.sender m.exclusive m.words m.clock)
+    (cond (same_kind m.kind Ack) (acknowledged h b m)
     (cond (same_kind m.kind Taken) (taken h m.sender)
     (requested h b (request_of m))))
     None

@@ -27,6 +27,7 @@ impl Processors {
         ensures { result ≡ with_member self processor present }
     {
         let mut next = self;
+        // Of a write through `get_mut` a proof knows no element.
         if processor < 4 {
             next.at[processor as usize] = present;
         }

@@ -177,36 +177,29 @@ impl Home {
     }
 
     // Marked words are the block's words now.
-    fn heard(self, round: Round, processor: u32, mark: bool, words: Words, clock: u32) -> Home
-        ensures { result ≡ heard_in self round processor mark words clock }
+    fn heard(self, round: Round, message: Message<u32>) -> Home
+        ensures { result ≡ heard_in self round message }
     {
         let mut next = self;
-        if mark {
-            next.words = words;
+        if message.exclusive {
+            next.words = message.words;
         }
-        next.directory = self.directory.heard(round, processor, clock);
+        next.directory = self.directory.heard(round, message.sender, message.clock);
         next
     }
 
-    fn acknowledged(
-        self,
-        block: u32,
-        processor: u32,
-        mark: bool,
-        words: Words,
-        clock: u32,
-    ) -> Option<Reaction<Home<u64>>>
+    fn acknowledged(self, block: u32, message: Message<u32>) -> Option<Reaction<Home<u64>>>
         requires { block < 16 }
-        ensures { result ≡ acknowledged self block processor mark words clock }
+        ensures { result ≡ acknowledged self block message }
     {
         let Phase::Gathering(round) = self.directory.phase else {
             return None;
         };
-        if !round.awaited.has(processor) {
+        if !round.awaited.has(message.sender) {
             return None;
         }
-        let next = self.heard(round, processor, mark, words, clock);
-        let round = round.heard(processor, clock);
+        let next = self.heard(round, message);
+        let round = round.heard(message.sender, message.clock);
         if round.awaited.is_empty() {
             return Some(next.finished(block, round));
         }
@@ -258,13 +251,7 @@ impl Home {
             return None;
         }
         match message.kind {
-            Kind::Ack => self.acknowledged(
-                block,
-                message.sender,
-                message.exclusive,
-                message.words,
-                message.clock,
-            ),
+            Kind::Ack => self.acknowledged(block, message),
             Kind::Taken => self.taken(message.sender),
             _ => self.requested(block, Request::of(message)),
         }
