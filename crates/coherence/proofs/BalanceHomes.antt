@@ -8,7 +8,7 @@ use Rattle.home.specs.Requests.{request_of}
 use Rattle.home.specs.Sets.{is_empty}
 use Rattle.home.specs.declared.machine.Home.{Home}
 use Rattle.home.specs.declared.plan.Plan.{Plan}
-use Rattle.home.specs.declared.plan.Plan.TheVariants.{Nothing, Refuse, Ask}
+use Rattle.home.specs.declared.plan.Plan.TheVariants.{Refuse, Ask}
 use Rattle.home.specs.declared.processors.Processors.{Processors}
 use Rattle.home.specs.declared.request.Request.{Request}
 use Rattle.message.specs.Kinds.{is_request, same_kind}
@@ -28,7 +28,7 @@ use Rattle.coherence.proofs.Phases.{gathers_no_more, gathers_so}
 use Rattle.coherence.proofs.Posting.{hit, NoQuestion, NoReply, count_one, questions_uncounted}
 
 -- A request is refused or taken, and taken by a home that gathers for nobody.
-busy_asks_nobody : (h : Home ℕ) (k : Kind) (p : ℕ) (s : Processors) → plan k (view h.directory) h.directory.holders p ≡ Ask s → gathers h ≡ false
+busy_asks_nobody : (h : Home ℕ) (k : Kind) (p : ℕ) (s : Processors) → plan k (view h.directory) h.directory.holders p ≡ Some (Ask s) → gathers h ≡ false
 busy_asks_nobody h k p s is = grind (arith, nat_tests)
 
 pub by_request : (P : Reaction (Home ℕ) → Type 0) (h : Home ℕ) (b : ℕ) (m : Message ℕ)
@@ -46,10 +46,10 @@ by_request P h b m acks takes refuses asks =
     Q : Option (Reaction (Home ℕ)) → Type 0
     Q o = IfSome o P
 
-    go : (x : Plan) → plan m.kind (view h.directory) h.directory.holders m.sender ≡ x → IfSome (planned h b (request_of m) x) P
-    go Nothing e = tt
-    go Refuse e = refuses (subst (PlanGood m.kind h.directory.holders) e (plan_good m.kind (view h.directory) h.directory.holders m.sender))
-    go (Ask s) e =
+    go : (x : Option Plan) → plan m.kind (view h.directory) h.directory.holders m.sender ≡ x → IfSome (planned h b (request_of m) x) P
+    go None e = tt
+    go (Some Refuse) e = refuses (subst (PlanGood m.kind h.directory.holders) e (plan_good m.kind (view h.directory) h.directory.holders m.sender))
+    go (Some (Ask s)) e =
         asks (subst (PlanGood m.kind h.directory.holders) e (plan_good m.kind (view h.directory) h.directory.holders m.sender)).0
         (busy_asks_nobody h m.kind m.sender s e) s
 

@@ -9,7 +9,7 @@ use Rattle.home.specs.Requests.{request_of, asks_down, asks_by, reply_kind, carr
 use Rattle.home.specs.Sets.{has, with_member, is_empty}
 use Rattle.home.specs.declared.machine.Home.{Home}
 use Rattle.home.specs.declared.plan.Plan.{Plan}
-use Rattle.home.specs.declared.plan.Plan.TheVariants.{Nothing, Refuse, Ask}
+use Rattle.home.specs.declared.plan.Plan.TheVariants.{Refuse, Ask}
 use Rattle.home.specs.declared.processors.Processors.{Processors}
 use Rattle.home.specs.declared.request.Request.{Request}
 use Rattle.message.specs.Checks.{has_processor, end_fits, fits}
@@ -163,11 +163,11 @@ module _ (f : Figures) (b : ℕ) (small : b < 16) where
       })
       (λ _. tt)
 
-  planned_good : (h : Home ℕ) (m : Message ℕ) (x : Plan) → HomeWell f b h → Well f m → m.receiver ≡ home_node b → PlanGood m.kind h.directory.holders x
+  planned_good : (h : Home ℕ) (m : Message ℕ) (x : Option Plan) → HomeWell f b h → Well f m → m.receiver ≡ home_node b → PlanGood m.kind h.directory.holders x
       → IfSome (planned h b (request_of m) x) (HomeGood f b)
-  planned_good h m Nothing well form to good = tt
-  planned_good h m Refuse well form to good = record { next = well; sends = λ _. (nack_well (request_of m) (request_kept f b m form to good), tt) }
-  planned_good h m (Ask s) well form to good = asked_good h (request_of m) s well (request_kept f b m form to good.0) (λ q e. well.holders q (good.1 q e))
+  planned_good h m None well form to good = tt
+  planned_good h m (Some Refuse) well form to good = record { next = well; sends = λ _. (nack_well (request_of m) (request_kept f b m form to good), tt) }
+  planned_good h m (Some (Ask s)) well form to good = asked_good h (request_of m) s well (request_kept f b m form to good.0) (λ q e. well.holders q (good.1 q e))
 
   pub home_good : (h : Home ℕ) (m : Message ℕ) → HomeWell f b h → Well f m → m.receiver ≡ home_node b → IfSome (received h b m) (HomeGood f b)
   home_good h m well form to =

@@ -169,7 +169,7 @@ module _ (b : ℕ) (x y : Block) where
   -- The home takes the request m and asks those of the set s, or, where there is nobody to ask, nobody.
   pub record AsksHolders (m : Message ℕ) (t s : Processors) : Type 0 where
     pub free : x.home.directory.phase ≡ Free
-    pub planned : plan m.kind (view x.home.directory) x.home.directory.holders m.sender ≡ Ask t
+    pub planned : plan m.kind (view x.home.directory) x.home.directory.holders m.sender ≡ Some (Ask t)
     pub asked : (s ≡ t) ⊎ ((s ≡ nobody) × (is_empty t ≡ true))
     pub request : is_request m.kind ≡ true
     pub class : token m ≡ kind_number m.kind

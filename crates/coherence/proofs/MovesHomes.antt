@@ -91,15 +91,15 @@ replies_come k = grind (arith, nat_tests)
 pub questions_come : (k : Kind) → (goes_home (asks_by k) || comes_from_home (asks_by k)) ≡ true
 questions_come k = grind (arith, nat_tests)
 
-busy_refuses : (k : Kind) (h s : Processors) (p : ℕ) → plan k Busy h p ≡ Ask s → ⊥
+busy_refuses : (k : Kind) (h s : Processors) (p : ℕ) → plan k Busy h p ≡ Some (Ask s) → ⊥
 busy_refuses k h s p is = grind (arith, nat_tests)
 
 -- a home that asks is free
-pub asks_if_free : (d : Directory) (k : Kind) (s : Processors) (p : ℕ) → plan k (view d) d.holders p ≡ Ask s → d.phase ≡ Free
+pub asks_if_free : (d : Directory) (k : Kind) (s : Processors) (p : ℕ) → plan k (view d) d.holders p ≡ Some (Ask s) → d.phase ≡ Free
 asks_if_free d k s p is = go d.phase refl
   where
     busy : view d ≡ Busy → ⊥
-    busy at = busy_refuses k d.holders s p (subst (λ (v : View). plan k v d.holders p ≡ Ask s) at is)
+    busy at = busy_refuses k d.holders s p (subst (λ (v : View). plan k v d.holders p ≡ Some (Ask s)) at is)
 
     go : (f : Phase) → d.phase ≡ f → d.phase ≡ Free
     go Free at = at

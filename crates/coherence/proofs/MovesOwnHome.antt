@@ -9,7 +9,7 @@ use Rattle.home.specs.Requests.{request_of, asks_by}
 use Rattle.home.specs.Sets.{nobody, is_empty}
 use Rattle.home.specs.declared.machine.Home.{Home}
 use Rattle.home.specs.declared.plan.Plan.{Plan}
-use Rattle.home.specs.declared.plan.Plan.TheVariants.{Nothing, Refuse, Ask}
+use Rattle.home.specs.declared.plan.Plan.TheVariants.{Refuse, Ask}
 use Rattle.home.specs.declared.processors.Processors.{Processors}
 use Rattle.list.specs.Contents.{removed}
 use Rattle.message.proofs.Numbering.{numbers_tell_kinds}
@@ -195,7 +195,7 @@ module _ {A B : Type 0} (w : World A B) (shape : Shape w) (b : ℕ) (low : b < 1
           trail = kept_added (on b) w.trail [] refl;
         }))
 
-    ask : (t s : Processors) (v : Block) → plan m.kind (view h.directory) h.directory.holders m.sender ≡ Ask t → (s ≡ t) ⊎ ((s ≡ nobody) × (is_empty t ≡ true))
+    ask : (t s : Processors) (v : Block) → plan m.kind (view h.directory) h.directory.holders m.sender ≡ Some (Ask t) → (s ≡ t) ⊎ ((s ≡ nobody) × (is_empty t ≡ true))
         → ((q : ℕ) → v.line q ≡ x.line q) → ((q : ℕ) → v.out q ≡ x.out q) → ((q : ℕ) → v.clock q ≡ x.clock q) → v.home ≡ asking_home h (request_of m) s
         → Posted x.messages (m ∷ []) (sent (asks (asks_by m.kind) b s)) v.messages → v.trail ≡ x.trail → Moves b x v
     ask t s v planned which lines outs clocks at_home post trail =
@@ -215,7 +215,7 @@ module _ {A B : Type 0} (w : World A B) (shape : Shape w) (b : ℕ) (low : b < 1
           trail = trail;
         })
 
-    take : (t : Processors) → plan m.kind (view h.directory) h.directory.holders m.sender ≡ Ask t → Passes b x (y (asked h b (request_of m) t))
+    take : (t : Processors) → plan m.kind (view h.directory) h.directory.holders m.sender ≡ Some (Ask t) → Passes b x (y (asked h b (request_of m) t))
     take t planned = go (is_empty t) refl
       where
         k : Home ℕ
@@ -239,10 +239,10 @@ module _ {A B : Type 0} (w : World A B) (shape : Shape w) (b : ℕ) (low : b < 1
       here : is_request m.kind ≡ true → about b m ≡ true
       here request = and_from _ (eqb m.place b) (or_left (goes_home m.kind) _ (request_class m request).2) (eq-eqb m.place b place)
 
-      go : (f : Plan) → plan m.kind (view h.directory) h.directory.holders m.sender ≡ f → PlanGood m.kind h.directory.holders f → planned h b (request_of m) f ≡ Some r → Passes b x (y r)
-      go Nothing at good done = never cc
-      go Refuse at good done = moved (let e : refused h b (request_of m) ≡ r = cc in e) (refuse (here good) good)
-      go (Ask t) at good done = moved (let e : asked h b (request_of m) t ≡ r = cc in e) (take (here good.0) good.0 t at)
+      go : (f : Option Plan) → plan m.kind (view h.directory) h.directory.holders m.sender ≡ f → PlanGood m.kind h.directory.holders f → planned h b (request_of m) f ≡ Some r → Passes b x (y r)
+      go None at good done = never cc
+      go (Some Refuse) at good done = moved (let e : refused h b (request_of m) ≡ r = cc in e) (refuse (here good) good)
+      go (Some (Ask t)) at good done = moved (let e : asked h b (request_of m) t ≡ r = cc in e) (take (here good.0) good.0 t at)
 
   pub home_moves : (r : Reaction (Home ℕ)) → received h b m ≡ Some r → Passes b x (y r)
   home_moves r done = by_ack (same_kind m.kind kind.Ack) refl (allowed (ltb b 16) _ r done).1

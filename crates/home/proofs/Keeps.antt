@@ -14,16 +14,16 @@ use Rattle.home.specs.Requests.{request_of}
 use Rattle.home.specs.Sets.{is_empty}
 use Rattle.home.specs.declared.machine.Home.{Home}
 use Rattle.home.specs.declared.plan.Plan.{Plan}
-use Rattle.home.specs.declared.plan.Plan.TheVariants.{Nothing, Refuse, Ask}
+use Rattle.home.specs.declared.plan.Plan.TheVariants.{Refuse, Ask}
 use Rattle.home.specs.declared.processors.Processors.{Processors}
 use Rattle.home.specs.declared.request.Request.{Request}
 use Rattle.message.specs.Reactions.{quiet}
 
-by_plan : (P : Reaction (Home ℕ) → Type 0) (h : Home ℕ) (b : ℕ) (r : Request) (p : Plan)
+by_plan : (P : Reaction (Home ℕ) → Type 0) (h : Home ℕ) (b : ℕ) (r : Request) (p : Option Plan)
     → P (refused h b r) → ((s : Processors) → P (asked h b r s)) → IfSome (planned h b r p) P
-by_plan P h b r Nothing u a = tt
-by_plan P h b r Refuse u a = u
-by_plan P h b r (Ask s) u a = a s
+by_plan P h b r None u a = tt
+by_plan P h b r (Some Refuse) u a = u
+by_plan P h b r (Some (Ask s)) u a = a s
 
 pub by_rule : (P : Reaction (Home ℕ) → Type 0) (h : Home ℕ) (b : ℕ) (m : Message ℕ)
     → (same_kind m.kind Ack ≡ true → IfSome (acknowledged h b m) P)

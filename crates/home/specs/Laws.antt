@@ -134,7 +134,7 @@ WordsStay =
 -- Ownership is granted only to one that shares.
 abbrev pub GrantsToSharers : Type 0
 GrantsToSharers =
-    (v : View) (holders asked : Processors) (p : ℕ) → plan Upg v holders p ≡ Ask asked → (v ≡ Shared) × (has holders p ≡ true)
+    (v : View) (holders asked : Processors) (p : ℕ) → plan Upg v holders p ≡ Some (Ask asked) → (v ≡ Shared) × (has holders p ≡ true)
 
 -- A device's write writes the words of its request; its read gets the words of the home, and the reply tells them.
 pub record ServesAsAsked (h : Home ℕ) (b : ℕ) : Type 0 where

@@ -25,7 +25,7 @@ use Rattle.home.specs.declared.directory.Phase.TheVariants.{Free, Gathering, Rep
 use Rattle.home.specs.declared.directory.Round.{Round}
 use Rattle.home.specs.declared.machine.Home.{Home}
 use Rattle.home.specs.declared.plan.Plan.{Plan}
-use Rattle.home.specs.declared.plan.Plan.TheVariants.{Nothing, Refuse, Ask}
+use Rattle.home.specs.declared.plan.Plan.TheVariants.{Refuse, Ask}
 use Rattle.home.specs.declared.processors.Processors.{Processors}
 use Rattle.home.specs.declared.request.Request.{Request}
 
@@ -121,10 +121,10 @@ asked h b r s =
     (finished (began h r) b)
     (record { next = asking_home h r s; sent = asks (asks_by r.kind) b s; entry = None; answer = None })
 
-abbrev pub planned : Home ℕ → ℕ → Request → Plan → Option (Reaction (Home ℕ))
-planned h b r Nothing = None
-planned h b r Refuse = Some (refused h b r)
-planned h b r (Ask s) = Some (asked h b r s)
+abbrev pub planned : Home ℕ → ℕ → Request → Option Plan → Option (Reaction (Home ℕ))
+planned h b r None = None
+planned h b r (Some Refuse) = Some (refused h b r)
+planned h b r (Some (Ask s)) = Some (asked h b r s)
 
 abbrev pub requested : Home ℕ → ℕ → Request → Option (Reaction (Home ℕ))
 requested h b r = planned h b r (plan r.kind (view h.directory) h.directory.holders r.requester)

@@ -164,16 +164,16 @@ impl Home {
         ensures quiet { IfSome result (λ x. x.answer ≡ None) }
     {
         let directory = self.directory;
-        match Plan::of(
+        let plan = Plan::of(
             request.kind,
             directory.view(),
             directory.holders,
             request.requester,
-        ) {
-            Plan::Nothing => None,
-            Plan::Refuse => Some(self.refused(block, request)),
-            Plan::Ask(holders) => Some(self.asked(block, request, holders)),
-        }
+        )?;
+        Some(match plan {
+            Plan::Refuse => self.refused(block, request),
+            Plan::Ask(holders) => self.asked(block, request, holders),
+        })
     }
 
     // Marked words are the block's words now.
