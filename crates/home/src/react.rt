@@ -1,6 +1,6 @@
 //! What a home does when a message reaches it.
 
-ghost use Rattle.std.specs.Prelude.{◌≡◌, ◌<◌, IfSome, None};
+ghost use Rattle.std.specs.Prelude.{◌≡◌, IfSome, None};
 ghost use Rattle.home.specs.Reactions.{clock_after, words_after, entry_for, reply, nack, finished_in, refused, ask_one, asks, asked, requested, heard_in, acknowledged, clock_freed, taken, received};
 
 use crate::directory::{Phase, Round};
@@ -8,6 +8,7 @@ use crate::machine::Home;
 use crate::plan::Plan;
 use crate::processors::Processors;
 use crate::request::Request;
+use message::block::Block;
 use message::kind::Kind;
 use message::message::Message;
 use message::node::is_device;
@@ -19,8 +20,7 @@ use trail::entry::Entry;
 
 impl Request {
     // The operation that the home does for it, at `clock`.
-    fn entry(self, block: u32, words: Words, clock: Clock<u64>) -> Option<Entry>
-        requires { block < 16 }
+    fn entry(self, block: Block, words: Words, clock: Clock<u64>) -> Option<Entry>
         ensures { result ≡ entry_for block self words clock }
     {
         Some(Entry {
@@ -28,17 +28,21 @@ impl Request {
             sequence: self.sequence,
             operation: self.operation()?,
             space: 0,
-            place: block,
+            place: block.number(),
             values: words,
-            stamp: Stamp::of(clock, 16 + block),
+            stamp: Stamp::of(clock, block.home()),
         })
     }
 
-    fn reply(self, block: u32, words: Words, clock: u64) -> Message
-        requires { block < 16 }
+    fn reply(self, block: Block, words: Words, clock: u64) -> Message
         ensures { result ≡ reply block self words clock }
     {
-        let mut reply = Message::plain(self.reply_kind(), 16 + block, self.requester, block);
+        let mut reply = Message::plain(
+            self.reply_kind(),
+            block.home(),
+            self.requester,
+            block.number(),
+        );
         if self.carries_words() {
             reply.words = words;
         }
@@ -47,15 +51,14 @@ impl Request {
     }
 
     // The request goes back as it came.
-    fn nack(self, block: u32) -> Message
-        requires { block < 16 }
+    fn nack(self, block: Block) -> Message
         ensures { result ≡ nack block self }
     {
         Message {
             kind: Kind::Nack,
-            sender: 16 + block,
+            sender: block.home(),
             receiver: self.requester,
-            place: block,
+            place: block.number(),
             words: self.words,
             clock: u64::from(self.clock),
             sequence: self.sequence,
@@ -65,18 +68,14 @@ impl Request {
     }
 }
 
-fn ask_one(kind: Kind, block: u32, holders: Processors, processor: u32) -> Option<Message>
-    requires { block < 16 }
+fn ask_one(kind: Kind, block: Block, holders: Processors, processor: u32) -> Option<Message>
     ensures { result ≡ ask_one kind block holders processor }
 {
-    holders
-        .has(processor)
-        .then(|| Message::plain(kind, 16 + block, processor, block))
+    holders.has(processor).then(|| Message::plain(kind, block.home(), processor, block.number()))
 }
 
 // In rising order of the processors.
-fn asks(kind: Kind, block: u32, holders: Processors) -> Outbox
-    requires { block < 16 }
+fn asks(kind: Kind, block: Block, holders: Processors) -> Outbox
     ensures { result ≡ asks kind block holders }
 {
     Outbox {
@@ -107,8 +106,7 @@ impl Home {
     }
 
     // All who were asked are heard: the operation and the reply.
-    fn finished(self, block: u32, round: Round) -> Reaction<Home<u64>>
-        requires { block < 16 }
+    fn finished(self, block: Block, round: Round) -> Reaction<Home<u64>>
         ensures { result ≡ finished_in self round block }
     {
         let request = round.request;
@@ -126,8 +124,7 @@ impl Home {
         }
     }
 
-    fn refused(self, block: u32, request: Request) -> Reaction<Home<u64>>
-        requires { block < 16 }
+    fn refused(self, block: Block, request: Request) -> Reaction<Home<u64>>
         ensures { result ≡ refused self block request }
     {
         Reaction {
@@ -139,8 +136,7 @@ impl Home {
     }
 
     // The request is taken.
-    fn asked(self, block: u32, request: Request, holders: Processors) -> Reaction<Home<u64>>
-        requires { block < 16 }
+    fn asked(self, block: Block, request: Request, holders: Processors) -> Reaction<Home<u64>>
         ensures { result ≡ asked self block request holders }
     {
         if holders.is_empty() {
@@ -158,8 +154,7 @@ impl Home {
         }
     }
 
-    fn requested(self, block: u32, request: Request) -> Option<Reaction<Home<u64>>>
-        requires { block < 16 }
+    fn requested(self, block: Block, request: Request) -> Option<Reaction<Home<u64>>>
         ensures value { result ≡ requested self block request }
         ensures quiet { IfSome result (λ x. x.answer ≡ None) }
     {
@@ -188,8 +183,7 @@ impl Home {
         next
     }
 
-    fn acknowledged(self, block: u32, message: Message<u32>) -> Option<Reaction<Home<u64>>>
-        requires { block < 16 }
+    fn acknowledged(self, block: Block, message: Message<u32>) -> Option<Reaction<Home<u64>>>
         ensures { result ≡ acknowledged self block message }
     {
         let Phase::Gathering(round) = self.directory.phase else {
@@ -247,9 +241,7 @@ impl Home {
         ensures value { result ≡ received self block message }
         ensures quiet { IfSome result (λ x. x.answer ≡ None) }
     {
-        if block >= 16 {
-            return None;
-        }
+        let block = Block::new(block)?;
         match message.kind {
             Kind::Ack => self.acknowledged(block, message),
             Kind::Taken => self.taken(message.sender),
