@@ -34,15 +34,16 @@ asking d r asked = record { holders = d.holders; exclusive = d.exclusive; phase 
 abbrev pub awaits : Directory → ℕ → Bool
 awaits d p = elim d.phase [ Free ↦ false | Gathering g ↦ has g.awaited p | Replied r ↦ false ]
 
--- Processor p is heard: it holds no copy now, or after DOWN a shared one.
+-- Processor p is heard, with its clock c.
 abbrev pub heard_round : Round → ℕ → ℕ → Round
 heard_round g p c = record { request = g.request; awaited = with_member g.awaited p false; latest = max g.latest c }
 
-abbrev pub heard : Directory → Round → ℕ → ℕ → Directory
-heard d g p c = record {
+-- It holds no copy now, or after DOWN a shared one; g is what is under way then.
+abbrev pub heard : Directory → Round → ℕ → Directory
+heard d g p = record {
   holders = cond (asks_down g.request.kind) d.holders (with_member d.holders p false);
   exclusive = false;
-  phase = Gathering (heard_round g p c);
+  phase = Gathering g;
 }
 
 -- The reply is sent: the requester holds what it was given.

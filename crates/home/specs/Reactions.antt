@@ -15,7 +15,7 @@ use Rattle.ordering.specs.Words.{no_words}
 use Rattle.ordering.specs.declared.clock.Clock.{Clock}
 use Rattle.ordering.specs.declared.operation.Words.{Words}
 use Rattle.trail.specs.declared.entry.Entry.{Entry}
-use Rattle.home.specs.Directories.{round_of, view, asking, awaits, heard, replied, freed}
+use Rattle.home.specs.Directories.{round_of, view, asking, awaits, heard_round, heard, replied, freed}
 use Rattle.home.specs.Homes.{home}
 use Rattle.home.specs.Plans.{plan}
 use Rattle.home.specs.Requests.{request_of, asks_by, reply_kind, carries_words, operation_for}
@@ -129,12 +129,12 @@ planned h b r (Some (Ask s)) = Some (asked h b r s)
 abbrev pub requested : Home ℕ → ℕ → Request → Option (Reaction (Home ℕ))
 requested h b r = planned h b r (plan r.kind (view h.directory) h.directory.holders r.requester)
 
--- The sender of m is heard while g is under way; words under the exclusive mark are the block's words now.
+-- The sender of m is heard, and then g is under way; words under the exclusive mark are the block's words now.
 abbrev pub heard_in : Home ℕ → Round → Message ℕ → Home ℕ
-heard_in h g m = home h.clock (cond m.exclusive m.words h.words) (heard h.directory g m.sender m.clock)
+heard_in h g m = home h.clock (cond m.exclusive m.words h.words) (heard h.directory g m.sender)
 
 abbrev pub heard_home : Home ℕ → Message ℕ → Home ℕ
-heard_home h m = heard_in h (round_of h.directory) m
+heard_home h m = heard_in h (heard_round (round_of h.directory) m.sender m.clock) m
 
 -- The last who is heard lets the home finish.
 abbrev pub after_hearing : Home ℕ → ℕ → Reaction (Home ℕ)

@@ -91,16 +91,17 @@ impl Directory {
         }
     }
 
-    /// The processor is heard: it holds no copy now, or after DOWN a shared one.
-    pub(crate) fn heard(self, round: Round, processor: u32, clock: u32) -> Directory
-        ensures { result ≡ heard self round processor clock }
+    /// The processor is heard: it holds no copy now, or after DOWN a shared one. `round` is what
+    /// is under way then.
+    pub(crate) fn heard(self, round: Round, processor: u32) -> Directory
+        ensures { result ≡ heard self round processor }
     {
         let mut next = self;
         if !round.request.asks_down() {
             next.holders = self.holders.with(processor, false);
         }
         next.exclusive = false;
-        next.phase = Phase::Gathering(round.heard(processor, clock));
+        next.phase = Phase::Gathering(round);
         next
     }
 

@@ -179,7 +179,7 @@ impl Home {
         if message.exclusive {
             next.words = message.words;
         }
-        next.directory = self.directory.heard(round, message.sender, message.clock);
+        next.directory = self.directory.heard(round, message.sender);
         next
     }
 
@@ -192,8 +192,8 @@ impl Home {
         if !round.awaited.has(message.sender) {
             return None;
         }
-        let next = self.heard(round, message);
         let round = round.heard(message.sender, message.clock);
+        let next = self.heard(round, message);
         if round.awaited.is_empty() {
             return Some(next.finished(block, round));
         }
