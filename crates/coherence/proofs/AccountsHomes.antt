@@ -2,7 +2,7 @@
 -- the one that it served.
 use Rattle.std.proofs.Common.{◌≡◌, ℕ, true, false, IfSome, Some, None, Option, sym, refl, ap, ◌∙◌, subst, arith}
 use Rattle.home.proofs.Back.{one_more}
-use Rattle.home.specs.Directories.{awaits}
+use Rattle.home.specs.Directories.{round_of, awaits}
 use Rattle.home.specs.Reactions.{acknowledged, after_hearing, ask_one, asked, asks, awaits_taken, began, clock_after, entry_for, finished, heard_home, received, refused, reply, taken, words_after}
 use Rattle.home.specs.Requests.{asks_by, request_of}
 use Rattle.home.specs.Sets.{has, is_empty}
@@ -25,8 +25,9 @@ use Rattle.std.specs.List.{AllByRecursion as All}
 use Rattle.trail.specs.declared.entry.Entry.{Entry}
 use Rattle.coherence.proofs.AccountsProcessors.{entry_issue}
 use Rattle.coherence.proofs.Arising.{never}
-use Rattle.coherence.proofs.BalanceHomes.{asks_as, by_request, carried_as, carried_back, gathers_so, no_question, no_reply, serves_as}
+use Rattle.coherence.proofs.BalanceHomes.{asks_as, by_request, carried_as, carried_back, no_question, no_reply, serves_as}
 use Rattle.coherence.proofs.Carrying.{block_access, carries, carried_access, entry_access, gathers, issued_as, served_access, serves}
+use Rattle.coherence.proofs.Phases.{gathers_so}
 use Rattle.coherence.specs.Histories.{Issued}
 
 -- What is known of an operation in a message, at a home, and of a request.
@@ -57,14 +58,14 @@ module _ (K : Issued → Type 0) where
 
   module _ (b : ℕ) where
     abbrev answer : Home ℕ → Message ℕ
-    answer k = reply b k.directory.request (words_after k.words k.directory.request) (clock_after k.clock k.directory).global
+    answer k = reply b (round_of k.directory).request (words_after k.words (round_of k.directory).request) (clock_after k.clock (round_of k.directory)).global
 
-    finished_known : (k : Home ℕ) → RequestKnown b k.directory.request → HomeAccounts b (finished k b)
+    finished_known : (k : Home ℕ) → RequestKnown b (round_of k.directory).request → HomeAccounts b (finished k b)
     finished_known k known = record {
       entry = λ e is.
-          let own = done_as_asked b k.directory.request _ _ e is in
+          let own = done_as_asked b (round_of k.directory).request _ _ e is in
           subst (λ (a : Access). K (issued_as e.party e.sequence a)) own.1 (known e.party e.sequence own.0);
-      sends = (uncarried (answer k) (λ n q. no_reply n q b k.directory.request (words_after k.words k.directory.request) (clock_after k.clock k.directory).global), tt);
+      sends = (uncarried (answer k) (λ n q. no_reply n q b (round_of k.directory).request (words_after k.words (round_of k.directory).request) (clock_after k.clock (round_of k.directory)).global), tt);
       next = λ n q serving. absurd (both_ways false refl serving);
     }
 
@@ -75,16 +76,18 @@ module _ (K : Issued → Type 0) where
           let same : carried_access m ≡ block_access m.kind b = request_access m is ∙ ap (block_access m.kind) (place is) in
           subst (λ (a : Access). K (issued_as n q a)) same (came n q carried)
 
-      held_known : gathers h ≡ true → RequestKnown b h.directory.request
+      held_known : gathers h ≡ true → RequestKnown b (round_of h.directory).request
       held_known busy n q asking = held n q (serves_as n q b h busy ∙ asking)
 
-      at_ack : IfSome (acknowledged h b m.sender m.exclusive m.words m.clock) (HomeAccounts b)
+      at_ack : IfSome (acknowledged h b m) (HomeAccounts b)
       at_ack =
-          let k = heard_home h m.sender m.exclusive m.words m.clock in
+          let k = heard_home h m in
           cond_both (awaits h.directory m.sender) (Some (after_hearing k b)) None (λ (o : Option (Reaction (Home ℕ))). IfSome o (HomeAccounts b))
-          (λ waits. cond_both (is_empty k.directory.awaited) (finished k b) (quiet k) (HomeAccounts b)
-          (λ _. finished_known k (held_known (gathers_so 0 0 b h m.sender waits)))
-          (λ _. record { entry = λ e is. never cc; sends = tt; next = held }))
+          (λ waits.
+          let known = held_known (gathers_so h m.sender waits) in
+          cond_both (is_empty (round_of k.directory).awaited) (finished k b) (quiet k) (HomeAccounts b)
+          (λ _. finished_known k known)
+          (λ _. record { entry = λ e is. never cc; sends = tt; next = known }))
           (λ _. tt)
 
       at_taken : IfSome (taken h m.sender) (HomeAccounts b)

@@ -28,7 +28,7 @@ grows b x y (nacked p k m is r) = inl r.trail
 grows b x y (again n k m a is r) = inl r.trail
 grows b x y (refuses n k m a is r) = inl r.trail
 grows b x y (asks_holders m t s r) = inl r.trail
-grows b x y (hears p m r) = inl r.trail
+grows b x y (hears m r) = inl r.trail
 grows b x y (frees n m r) = inl r.trail
 grows b x y (finishes r) = go (finished x.home b).entry r.trail
   where

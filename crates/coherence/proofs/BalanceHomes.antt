@@ -1,16 +1,14 @@
 -- What each reaction of a home does to the balance of numbered operations: a block request goes back, is done at once or
 -- is served while the home gathers; and what is served is done when the last is heard.
-use Rattle.std.proofs.Common.{◌≡◌, ℕ, ◌+◌, Bool, true, false, ◌&&◌, eqb, ltb, IfSome, Some, None, Option, sym, refl, ap, subst, arith}
-use Rattle.home.specs.Directories.{awaits, view}
+use Rattle.std.proofs.Common.{◌≡◌, ℕ, ◌+◌, Bool, true, false, ◌&&◌, eqb, ltb, IfSome, Some, None, Option, refl, ap, subst, arith}
+use Rattle.home.specs.Directories.{round_of, awaits, view}
 use Rattle.home.specs.Plans.{plan}
 use Rattle.home.specs.Reactions.{asked, acknowledged, after_hearing, awaits_taken, began, clock_after, entry_for, finished, heard_home, nack, planned, received, refused, reply, taken, words_after}
 use Rattle.home.specs.Requests.{request_of}
 use Rattle.home.specs.Sets.{is_empty}
-use Rattle.home.specs.declared.directory.Phase.{Phase}
-use Rattle.home.specs.declared.directory.Phase.TheVariants.{Free, Gathering, Replied}
 use Rattle.home.specs.declared.machine.Home.{Home}
 use Rattle.home.specs.declared.plan.Plan.{Plan}
-use Rattle.home.specs.declared.plan.Plan.TheVariants.{Nothing, Refuse, Ask}
+use Rattle.home.specs.declared.plan.Plan.TheVariants.{Refuse, Ask}
 use Rattle.home.specs.declared.processors.Processors.{Processors}
 use Rattle.home.specs.declared.request.Request.{Request}
 use Rattle.message.specs.Kinds.{is_request, same_kind}
@@ -26,14 +24,15 @@ use Rattle.std.proofs.lemmas.Bool.Decides.{nat_tests}
 use Rattle.coherence.proofs.Carrying.{carries, done_as, gathers, is_block_request, serves}
 use Rattle.coherence.proofs.Counting.{indicator, count, count_none}
 use Rattle.coherence.proofs.FormsKept.{PlanGood, plan_good}
+use Rattle.coherence.proofs.Phases.{gathers_no_more, gathers_so}
 use Rattle.coherence.proofs.Posting.{hit, NoQuestion, NoReply, count_one, questions_uncounted}
 
 -- A request is refused or taken, and taken by a home that gathers for nobody.
-busy_asks_nobody : (h : Home ℕ) (k : Kind) (p : ℕ) (s : Processors) → plan k (view h.directory) h.directory.holders p ≡ Ask s → gathers h ≡ false
+busy_asks_nobody : (h : Home ℕ) (k : Kind) (p : ℕ) (s : Processors) → plan k (view h.directory) h.directory.holders p ≡ Some (Ask s) → gathers h ≡ false
 busy_asks_nobody h k p s is = grind (arith, nat_tests)
 
 pub by_request : (P : Reaction (Home ℕ) → Type 0) (h : Home ℕ) (b : ℕ) (m : Message ℕ)
-    → (same_kind m.kind Ack ≡ true → IfSome (acknowledged h b m.sender m.exclusive m.words m.clock) P)
+    → (same_kind m.kind Ack ≡ true → IfSome (acknowledged h b m) P)
     → (same_kind m.kind Taken ≡ true → IfSome (taken h m.sender) P)
     → (is_request m.kind ≡ true → P (refused h b (request_of m)))
     → (is_request m.kind ≡ true → gathers h ≡ false → (s : Processors) → P (asked h b (request_of m) s))
@@ -47,10 +46,10 @@ by_request P h b m acks takes refuses asks =
     Q : Option (Reaction (Home ℕ)) → Type 0
     Q o = IfSome o P
 
-    go : (x : Plan) → plan m.kind (view h.directory) h.directory.holders m.sender ≡ x → IfSome (planned h b (request_of m) x) P
-    go Nothing e = tt
-    go Refuse e = refuses (subst (PlanGood m.kind h.directory.holders) e (plan_good m.kind (view h.directory) h.directory.holders m.sender))
-    go (Ask s) e =
+    go : (x : Option Plan) → plan m.kind (view h.directory) h.directory.holders m.sender ≡ x → IfSome (planned h b (request_of m) x) P
+    go None e = tt
+    go (Some Refuse) e = refuses (subst (PlanGood m.kind h.directory.holders) e (plan_good m.kind (view h.directory) h.directory.holders m.sender))
+    go (Some (Ask s)) e =
         asks (subst (PlanGood m.kind h.directory.holders) e (plan_good m.kind (view h.directory) h.directory.holders m.sender)).0
         (busy_asks_nobody h m.kind m.sender s e) s
 
@@ -86,32 +85,30 @@ module _ (n q b : ℕ) where
   taken_carries m is = grind (arith, nat_tests)
 
   finished_number : (k : Home ℕ)
-      → hit (done_as n q) (finished k b).entry + (count (carries n q) (sent (finished k b).sent) + indicator (serves n q (finished k b).next)) ≡ indicator (asks_as k.directory.request)
+      → hit (done_as n q) (finished k b).entry + (count (carries n q) (sent (finished k b).sent) + indicator (serves n q (finished k b).next)) ≡ indicator (asks_as (round_of k.directory).request)
   finished_number k =
-      let r = k.directory.request in
-      let done = done_for r (words_after k.words r) (clock_after k.clock k.directory) in
-      let one = count_one (carries n q) b (reply b r (words_after k.words r) (clock_after k.clock k.directory).global) in
-      let none = ap indicator (no_reply r (words_after k.words r) (clock_after k.clock k.directory).global) in
+      let r = (round_of k.directory).request in
+      let done = done_for r (words_after k.words r) (clock_after k.clock (round_of k.directory)) in
+      let one = count_one (carries n q) b (reply b r (words_after k.words r) (clock_after k.clock (round_of k.directory)).global) in
+      let none = ap indicator (no_reply r (words_after k.words r) (clock_after k.clock (round_of k.directory)).global) in
       omega arith
 
-  -- a home that awaits an acknowledgement gathers
-  pub gathers_so : (h : Home ℕ) (p : ℕ) → awaits h.directory p ≡ true → gathers h ≡ true
-  gathers_so h p is = grind (arith, nat_tests)
-
-  pub serves_as : (h : Home ℕ) → gathers h ≡ true → serves n q h ≡ asks_as h.directory.request
+  pub serves_as : (h : Home ℕ) → gathers h ≡ true → serves n q h ≡ asks_as (round_of h.directory).request
   serves_as h is = rw is refl
 
   serves_none : (h : Home ℕ) → gathers h ≡ false → serves n q h ≡ false
   serves_none h is = rw is refl
 
-  ack_number : (h : Home ℕ) (m : Message ℕ) → same_kind m.kind Ack ≡ true → IfSome (acknowledged h b m.sender m.exclusive m.words m.clock) (Counts h m)
+  ack_number : (h : Home ℕ) (m : Message ℕ) → same_kind m.kind Ack ≡ true → IfSome (acknowledged h b m) (Counts h m)
   ack_number h m is =
-      let k = heard_home h m.sender m.exclusive m.words m.clock in
+      let k = heard_home h m in
       let none = ap indicator (ack_carries m is) in
       cond_both (awaits h.directory m.sender) (Some (after_hearing k b)) None (λ (o : Option (Reaction (Home ℕ))). IfSome o (Counts h m))
-      (λ waits. cond_both (is_empty k.directory.awaited) (finished k b) (quiet k) (Counts h m)
-      (λ _. let last = finished_number k in let served = ap indicator (serves_as h (gathers_so h m.sender waits)) in omega arith)
-      (λ _. let nothing = count_none (carries n q) in omega arith))
+      (λ waits.
+      let served = ap indicator (serves_as h (gathers_so h m.sender waits)) in
+      cond_both (is_empty (round_of k.directory).awaited) (finished k b) (quiet k) (Counts h m)
+      (λ _. let last = finished_number k in omega arith)
+      (λ _. let still = ap indicator (serves_as k refl) in let nothing = count_none (carries n q) in omega arith))
       (λ _. tt)
 
   taken_number : (h : Home ℕ) (m : Message ℕ) → same_kind m.kind Taken ≡ true → IfSome (taken h m.sender) (Counts h m)
@@ -120,15 +117,9 @@ module _ (n q b : ℕ) where
       (λ waits.
       let none = ap indicator (taken_carries m is) in
       let nothing = count_none (carries n q) in
-      let idle = ap indicator (serves_none h (taken_idle h.directory.phase waits)) in
+      let idle = ap indicator (serves_none h (gathers_no_more h m.sender waits)) in
       omega arith)
       (λ _. tt)
-    where
-      taken_idle : (p : Phase) → elim p [ Free ↦ false | Gathering ↦ false | Replied ↦ eqb h.directory.request.requester m.sender ] ≡ true
-          → elim p [ Free ↦ false | Gathering ↦ true | Replied ↦ false ] ≡ false
-      taken_idle Free w = refl
-      taken_idle Gathering w = sym w
-      taken_idle Replied w = refl
 
   refused_number : (h : Home ℕ) (m : Message ℕ) → is_request m.kind ≡ true → Counts h m (refused h b (request_of m))
   refused_number h m is =

@@ -1,6 +1,7 @@
 -- Bounds of one block: where each entry on it stands to the clocks of the home, of those who hold a copy, and of the
 -- acknowledgements on their way. So whoever may operate now has a clock above all that conflicts.
 use Rattle.std.proofs.Common.{◌≡◌, ℕ, ◌+◌, ◌<◌, ◌≤◌, max, Bool, true, false, ◌||◌, eqb, List, [], sym, refl, ◌∙◌, subst, inl, arith}
+use Rattle.home.specs.Directories.{round_of}
 use Rattle.home.specs.declared.machine.Home.{Home}
 use Rattle.message.specs.declared.message.Message.{Message}
 use Rattle.ordering.specs.Operations.{is_write}
@@ -16,7 +17,7 @@ use Rattle.coherence.proofs.TokensKept.{Alike}
 
 -- The greatest number that the home knows of.
 abbrev pub bound : Home ℕ → ℕ
-bound h = max h.clock.global h.directory.latest
+bound h = max h.clock.global (round_of h.directory).latest
 
 abbrev pub is_ack : Message ℕ → Bool
 is_ack m = eqb (token m) 12 || eqb (token m) 41

@@ -1,6 +1,7 @@
 -- Moves that change a copy: a processor gives way, or takes a copy; and the home hears an acknowledgement. The bounds of the
 -- entries on the block are kept.
 use Rattle.std.proofs.Common.{◌≡◌, ℕ, ◌+◌, ◌<◌, ◌≤◌, max, true, false, ◌||◌, eqb, ◌⊎◌, List, [], ◌∷◌, sym, refl, ap, ◌∙◌, subst, inl, inr, ⊎_elim, arith}
+use Rattle.home.specs.Directories.{round_of}
 use Rattle.message.specs.declared.kind.Kind.{Kind}
 use Rattle.message.specs.declared.message.Message.{Message}
 use Rattle.ordering.specs.Operations.{is_write}
@@ -236,8 +237,11 @@ module _ (b : ℕ) (x y : Block) (p : ℕ) (k : Kind) (old new : Line) (c : ℕ)
   takes_bounds bounds = subst (All (Bounded y.line y.clock y.home y.messages)) (sym r.trail) (All-weaker _ _ takes_bounded x.trail bounds)
 
 -- The home hears an acknowledgement: what loses its exception is below it.
-module _ (b : ℕ) (x y : Block) (p : ℕ) (m : Message ℕ) (r : Hears b x y p m) where
-  latest : bound y.home ≡ max x.home.clock.global (max x.home.directory.latest m.clock)
+module _ (b : ℕ) (x y : Block) (m : Message ℕ) (r : Hears b x y m) where
+  abbrev p : ℕ
+  p = m.sender
+
+  latest : bound y.home ≡ max x.home.clock.global (max (round_of x.home.directory).latest m.clock)
   latest = ap bound r.home
 
   gone : (q : ℕ) → eqb p q ≡ false → (pending y.messages 12 q ≡ pending x.messages 12 q) × (pending y.messages 41 q ≡ pending x.messages 41 q)

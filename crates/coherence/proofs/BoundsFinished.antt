@@ -1,6 +1,7 @@
 -- The home finishes: its clock goes above all that it knows of, so an operation of its own is above every entry that
 -- conflicts with it.
 use Rattle.std.proofs.Common.{◌≡◌, ℕ, ◌+◌, ◌<◌, ◌≤◌, max, Bool, true, false, ◌&&◌, eqb, [], ◌∷◌, ◌++◌, is_some, Some, None, Option, sym, refl, ap, subst, ⊎_elim, arith}
+use Rattle.home.specs.Directories.{round_of}
 use Rattle.home.specs.Reactions.{clock_after, finished, reply}
 use Rattle.home.specs.Requests.{operation_for, asks_down}
 use Rattle.home.specs.declared.machine.Home.{Home}
@@ -31,13 +32,13 @@ use Rattle.coherence.proofs.Tokens.{Tokens, gathering, held, owned, shared, serv
 use Rattle.coherence.proofs.TokensKept.{same_line}
 
 -- the clock goes above what the home had and what it heard
-above : (h : Home ℕ) → bound h < (clock_after h.clock h.directory).global
+above : (h : Home ℕ) → bound h < (clock_after h.clock (round_of h.directory)).global
 above h =
-    cond_both (is_some (operation_for h.directory.request.kind)) (counted (passed h.clock (max h.directory.latest h.directory.request.clock))) (passed h.clock h.directory.latest)
+    cond_both (is_some (operation_for (round_of h.directory).request.kind)) (counted (passed h.clock (max (round_of h.directory).latest (round_of h.directory).request.clock))) (passed h.clock (round_of h.directory).latest)
     (λ (c : Clock ℕ). bound h < c.global) (λ _. omega arith) (λ _. omega arith)
 
 -- only Wblk writes
-writes_for : (h : Home ℕ) (b : ℕ) (e : Entry) → (finished h b).entry ≡ Some e → is_write e.operation ≡ true → same_kind h.directory.request.kind kind.Wblk ≡ true
+writes_for : (h : Home ℕ) (b : ℕ) (e : Entry) → (finished h b).entry ≡ Some e → is_write e.operation ≡ true → same_kind (round_of h.directory).request.kind kind.Wblk ≡ true
 writes_for h b e is write = grind (arith, nat_tests)
 
 -- who asks for Wblk takes every copy back
@@ -52,7 +53,7 @@ module _ (b : ℕ) (x y : Block) (t : Tokens x) (bounds : Bounds x) (r : Finishe
   BoundedIn z e = Bounded z.line z.clock z.home z.messages e
 
   busy : gathering h ≡ 1
-  busy = let g : gathers h ≡ true = rw (r.gathering, gathers) refl in ap indicator g
+  busy = ap indicator r.gathering
 
   no_acks : (q : ℕ) → (pending x.messages 12 q ≡ 0) × (pending x.messages 41 q ≡ 0)
   no_acks q = let z = none_asked x t r.heard q in (z.2, z.3)
@@ -61,14 +62,14 @@ module _ (b : ℕ) (x y : Block) (t : Tokens x) (bounds : Bounds x) (r : Finishe
   no_owner = none_owned x t r.heard busy
 
   -- where a write was asked for, nobody has a copy
-  none_held : same_kind h.directory.request.kind kind.Wblk ≡ true → (q : ℕ) → held (x.line q) ≡ 0
+  none_held : same_kind (round_of h.directory).request.kind kind.Wblk ≡ true → (q : ℕ) → held (x.line q) ≡ 0
   none_held is q =
-      let k = wblk_asks h.directory.request.kind is in
+      let k = wblk_asks (round_of h.directory).request.kind is in
       let all = (t.gathered q).all_asked in
       let copy = (t.copies q).copy in
       let waits = (t.gathered q).waits in
       let z = none_asked x t r.heard q in
-      let off : (gathers h && (eqb (kind_number h.directory.request.kind) 3 && eqb h.directory.request.requester q)) ≡ false = rw k.1 (neither (gathers h)) in
+      let off : (gathers h && (eqb (kind_number (round_of h.directory).request.kind) 3 && eqb (round_of h.directory).request.requester q)) ≡ false = rw k.1 (neither (gathers h)) in
       let not_upgrading : serving h 3 q ≡ 0 = ap indicator off in
       omega (arith, busy, k.0, z.0, z.1, z.2, z.3)
     where
@@ -76,11 +77,11 @@ module _ (b : ℕ) (x y : Block) (t : Tokens x) (bounds : Bounds x) (r : Finishe
       neither true = refl
       neither false = refl
 
-  global_now : y.home.clock.global ≡ (clock_after h.clock h.directory).global
+  global_now : y.home.clock.global ≡ (clock_after h.clock (round_of h.directory)).global
   global_now = ap (λ (k : Home ℕ). k.clock.global) r.home
 
-  answer : NoAcks (reply b h.directory.request y.home.words y.home.clock.global ∷ [])
-  answer = (reply_class b h.directory.request y.home.words y.home.clock.global, tt)
+  answer : NoAcks (reply b (round_of h.directory).request y.home.words y.home.clock.global ∷ [])
+  answer = (reply_class b (round_of h.directory).request y.home.words y.home.clock.global, tt)
 
   up : bound h ≤ bound y.home
   up = let g = global_now in let a = above h in omega arith
@@ -89,7 +90,7 @@ module _ (b : ℕ) (x y : Block) (t : Tokens x) (bounds : Bounds x) (r : Finishe
   old_bounded = bounded_on x y [] _ (λ q. same_line (y.line q) (x.line q) (r.lines q)) (λ q. let c = r.clocks q in omega arith) up r.messages tt answer
 
   module _ (e : Entry) (is : (finished h b).entry ≡ Some e) where
-    at_home : (e.stamp.node ≡ 16 + b) × (e.stamp.global ≡ (clock_after h.clock h.directory).global)
+    at_home : (e.stamp.node ≡ 16 + b) × (e.stamp.global ≡ (clock_after h.clock (round_of h.directory)).global)
     at_home = let s = (timely h b).stamps e is in (ap (λ (z : Stamp). z.node) s, ap (λ (z : Stamp). z.global) s)
 
     pub finishes_fresh : Fresh x.trail e
@@ -112,7 +113,7 @@ module _ (b : ℕ) (x y : Block) (t : Tokens x) (bounds : Bounds x) (r : Finishe
       acknowledged = posted_all (Acknowledged y.line e) x.messages [] _ y.messages r.messages
           (All-weaker (λ m. is_ack m ≡ true → peer m ≡ e.stamp.node → ⊥) (Acknowledged y.line e) (λ m none ack from. absurd (none ack (sym from))) x.messages
           (let a = no_acks e.stamp.node in no_acks_of x.messages e.stamp.node a.0 a.1))
-          ((λ ack from. absurd (both_ways (is_ack (reply b h.directory.request y.home.words y.home.clock.global)) answer.0 ack)), tt);
+          ((λ ack from. absurd (both_ways (is_ack (reply b (round_of h.directory).request y.home.words y.home.clock.global)) answer.0 ack)), tt);
     }
 
   pub finishes_bounds : Bounds y

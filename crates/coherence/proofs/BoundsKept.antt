@@ -21,6 +21,7 @@ use Rattle.coherence.proofs.BoundsQuiet.{asks_bounds, fit_request, frees_bounds,
 use Rattle.coherence.proofs.Carrying.{gathers}
 use Rattle.coherence.proofs.Counting.{indicator, indicator_most}
 use Rattle.coherence.proofs.Moves.{GivesWay, Moves, Takes, rests, loads, stores, requests, invalidates_shared, invalidates_owned, downgrades, shares, owns, betters, gives_back, lands, stored, nacked, again, refuses, asks_holders, hears, finishes, frees}
+use Rattle.coherence.proofs.Phases.{nothing_heard}
 use Rattle.coherence.proofs.Shifts.{TimedReply, apart, moved_here}
 use Rattle.coherence.proofs.Sole.{copies_add, held_most}
 use Rattle.coherence.proofs.Tokens.{Tokens, answering, exclusive, gathering, held, holder, is_reply, out_is}
@@ -49,7 +50,7 @@ module _ (b : ℕ) (x y : Block) (t : Tokens x) (bounds : Bounds x) where
     limit : p < 4 → is_reply c ≡ true → 1 ≤ answering x.home p → bound x.home < y.clock p
     limit small is answered =
         let free = not_so (gathers x.home) (idle answered) in
-        let none = t.latest free in
+        let none = nothing_heard x.home free in
         let clock = (posted_gone (TimedReply x.home) x.messages (m ∷ []) _ y.messages r.messages t.clocks).0 (ap is_reply r.class ∙ is) in
         let on = r.onward small in
         omega arith
@@ -121,8 +122,8 @@ module _ (b : ℕ) (x y : Block) (t : Tokens x) (bounds : Bounds x) where
   bounds_moved (nacked p k m is r) = nacked_bounds b x y p k m is bounds r
   bounds_moved (again n k m a is r) = returns_bounds b x y n _ _ m a (refusal_class k is) (request_class k is) bounds r
   bounds_moved (refuses n k m a is r) = returns_bounds b x y n _ _ m a (request_class k is) (refusal_class k is) bounds r
-  bounds_moved (asks_holders m t' s r) = asks_bounds b x y m t' s t bounds r
-  bounds_moved (hears p m r) = copies.hears_bounds b x y p m r bounds
+  bounds_moved (asks_holders m t' s r) = asks_bounds b x y m t' s bounds r
+  bounds_moved (hears m r) = copies.hears_bounds b x y m r bounds
   bounds_moved (finishes r) = finishes_bounds b x y t bounds r
   bounds_moved (frees n m r) = frees_bounds b x y n m bounds r
 
@@ -151,7 +152,7 @@ module _ (b : ℕ) (x y : Block) (t : Tokens x) (bounds : Bounds x) where
     fresh_moved (again n k m a is r) = not_still r.trail
     fresh_moved (refuses n k m a is r) = not_still r.trail
     fresh_moved (asks_holders m t' s r) = not_still r.trail
-    fresh_moved (hears p m r) = not_still r.trail
+    fresh_moved (hears m r) = not_still r.trail
     fresh_moved (frees n m r) = not_still r.trail
     fresh_moved (finishes r) = go (finished x.home b).entry refl
       where

@@ -1,5 +1,6 @@
 -- Moves in which no acknowledgement goes or comes and no copy changes: the bounds of a block stay.
 use Rattle.std.proofs.Common.{◌≡◌, ℕ, ◌<◌, ◌≤◌, true, false, cond, ◌||◌, eqb, ◌⊎◌, List, [], ◌∷◌, sym, refl, ap, ◌∙◌, subst, inl, inr, arith}
+use Rattle.home.specs.Directories.{round_of}
 use Rattle.home.specs.Reactions.{clock_freed, reply}
 use Rattle.home.specs.Requests.{asks_by}
 use Rattle.home.specs.declared.machine.Home.{Home}
@@ -19,11 +20,11 @@ use Rattle.std.proofs.lemmas.Bool.{cases_Bool, cond_both, eqb-true}
 use Rattle.std.proofs.lemmas.Bool.Decides.{nat_tests}
 use Rattle.coherence.proofs.Blocks.{Block, Posted, token}
 use Rattle.coherence.proofs.Bounds.{Bounds, bound, bounds_on, is_ack, posted_none}
-use Rattle.coherence.proofs.Carrying.{gathers, is_block_request}
+use Rattle.coherence.proofs.Carrying.{is_block_request}
 use Rattle.coherence.proofs.Classes.{refusal_of}
 use Rattle.coherence.proofs.Moves.{AsksHolders, Frees, Nacked, Requests, Rests, Returns, Takes}
 use Rattle.coherence.proofs.MovesHomes.{each_asked}
-use Rattle.coherence.proofs.Tokens.{Tokens}
+use Rattle.coherence.proofs.Phases.{gathers_no_more, idle, nothing_heard}
 use Rattle.coherence.proofs.TokensKept.{Alike, same_line}
 
 -- what a node may ask for is a request
@@ -91,14 +92,14 @@ module _ (b : ℕ) (x y : Block) where
           go (inr there) = rw there refl
 
   -- the home begins to gather: it has heard nothing yet, and had nothing to hear
-  pub asks_bounds : (m : Message ℕ) (t s : Processors) → Tokens x → Bounds x → AsksHolders b x y m t s → Bounds y
-  asks_bounds m t s tokens bounds r =
+  pub asks_bounds : (m : Message ℕ) (t s : Processors) → Bounds x → AsksHolders b x y m t s → Bounds y
+  asks_bounds m t s bounds r =
       bounds_on x y (m ∷ []) _ (stay r.lines) (rise r.clocks) up r.messages
       (other_class m (kind_number m.kind) r.class (request_class m.kind r.request), tt)
       (each_asked (λ n. is_ack n ≡ false) (asks_by m.kind) b s (λ p. question_class m.kind (home_node b) p b)) r.trail bounds
     where
-      none : x.home.directory.latest ≡ 0
-      none = tokens.latest (rw (r.free, gathers) refl)
+      none : (round_of x.home.directory).latest ≡ 0
+      none = nothing_heard x.home (idle x.home r.free).0
 
       up : bound x.home ≤ bound y.home
       up = let e = ap bound r.home in omega (arith, none)
@@ -113,5 +114,6 @@ module _ (b : ℕ) (x y : Block) where
       up : bound x.home ≤ bound y.home
       up =
           let clock = ap (λ (h : Home ℕ). h.clock.global) r.home in
-          let latest = ap (λ (h : Home ℕ). h.directory.latest) r.home in
+          let latest = ap (λ (h : Home ℕ). (round_of h.directory).latest) r.home in
+          let none = nothing_heard x.home (gathers_no_more x.home n r.awaited) in
           omega (arith, onward)

@@ -1,5 +1,6 @@
 -- Operations under way: what carries each one, and how those that were issued stand to those that are done.
 use Rattle.std.proofs.Common.{◌≡◌, ℕ, ◌+◌, ◌-◌, ◌<◌, Bool, true, false, cond, ◌&&◌, ◌||◌, eqb, ltb, List, Some, None, Option}
+use Rattle.home.specs.Directories.{round_of}
 use Rattle.home.specs.declared.directory.Phase.TheVariants.{Free, Gathering, Replied}
 use Rattle.home.specs.declared.machine.Home.{Home}
 use Rattle.message.specs.Kinds.{same_kind}
@@ -37,13 +38,13 @@ carries n s m =
     && cond (same_kind m.kind kind.Nack) (refuses_block m.refused && eqb m.receiver n) (is_errand m.kind && eqb m.sender n)
 
 abbrev pub gathers : Home ℕ → Bool
-gathers h = elim h.directory.phase [ Free ↦ false | Gathering ↦ true | Replied ↦ false ]
+gathers h = elim h.directory.phase [ Free ↦ false | Gathering g ↦ true | Replied r ↦ false ]
 
 -- The home gathers acknowledgements for operation s of party n.
 abbrev pub serves : ℕ → ℕ → Home ℕ → Bool
 serves n s h =
     gathers h
-    && (is_block_request h.directory.request.kind && (eqb h.directory.request.requester n && eqb h.directory.request.sequence s))
+    && (is_block_request (round_of h.directory).request.kind && (eqb (round_of h.directory).request.requester n && eqb (round_of h.directory).request.sequence s))
 
 abbrev pub done_as : ℕ → ℕ → Entry → Bool
 done_as n s e = eqb e.party n && eqb e.sequence s
@@ -71,7 +72,7 @@ carried_access m =
     cond (same_kind m.kind kind.Nack) (block_access (refused_kind m.refused) m.place) (errand_access m.kind m.receiver m.place)
 
 abbrev pub served_access : ℕ → Home ℕ → Access
-served_access b h = block_access h.directory.request.kind b
+served_access b h = block_access (round_of h.directory).request.kind b
 
 abbrev pub issued_as : ℕ → ℕ → Access → Issued
 issued_as n s a = record { party = n; sequence = s; access = a }

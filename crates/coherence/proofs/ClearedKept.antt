@@ -1,6 +1,7 @@
 -- Every call keeps what is said of the operations under way: all before them is settled, and channels keep their order.
 use Rattle.std.proofs.Common.{◌≡◌, ℕ, ◌<◌, true, false, ◌⊎◌, List, [], ◌∷◌, ◌++◌, refl, ap, inl, inr, ⊎_elim, arith}
 use Rattle.device.specs.Meaning.{Meaning}
+use Rattle.home.specs.Directories.{round_of}
 use Rattle.message.specs.Reactions.{sent}
 use Rattle.message.specs.declared.figures.Figures.{Figures}
 use Rattle.message.specs.declared.message.Message.{Message}
@@ -113,7 +114,7 @@ module _ {A B : Type 0} (ma : Meaning A) (mb : Meaning B) where
         (messages_either ma mb f c h e known later time m there)
 
     pub homes_clear : (b n s : ℕ) → b < 16 → serves n s (home_at h'.world b) ≡ true
-        → Clear n s (home_at h'.world b).directory.request.clock (served_access b (home_at h'.world b))
+        → Clear n s (round_of (home_at h'.world b).directory).request.clock (served_access b (home_at h'.world b))
     homes_clear b n s small c' = on_from n s _ _ (served_access b (home_at h'.world b)) (runs.homes b n s small c') (inl refl)
 
     follows : (a b : Message ℕ) → Stands (waiting ma mb c w) a → Stands (sent e.sent) b → Follows a b

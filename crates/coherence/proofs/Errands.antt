@@ -1,5 +1,6 @@
 -- What an effect does to the operations under way: what starts, what goes on to be carried, and what is done.
 use Rattle.std.proofs.Common.{◌≡◌, ℕ, ◌+◌, ◌<◌, true, false, ◌⊎◌, Some, None}
+use Rattle.home.specs.Directories.{round_of}
 use Rattle.message.specs.Nodes.{device_node, home_node, is_device}
 use Rattle.message.specs.Pairs.{oldest_of_pair}
 use Rattle.message.specs.Reactions.{sent}
@@ -27,7 +28,7 @@ module _ {A B : Type 0} (w : World A B) where
   -- Operation s of party n, to access a, is under way with clock k.
   pub data Carrier (n s k : ℕ) (a : Access) : Type 0 where
     in_message : (m : Message ℕ) → Stands w.messages m → carries n s m ≡ true → m.clock ≡ k → carried_access m ≡ a → Carrier n s k a
-    in_home : (b : ℕ) → b < 16 → serves n s (home_at w b) ≡ true → (home_at w b).directory.request.clock ≡ k → served_access b (home_at w b) ≡ a → Carrier n s k a
+    in_home : (b : ℕ) → b < 16 → serves n s (home_at w b) ≡ true → (round_of (home_at w b).directory).request.clock ≡ k → served_access b (home_at w b) ≡ a → Carrier n s k a
 
   -- A message that carries operation s of party n was sent because a processor or a device started it, or it goes on.
   pub data Sent (n s : ℕ) (y : Message ℕ) : Type 0 where
@@ -47,7 +48,7 @@ module _ {A B : Type 0} (w : World A B) where
     delivered : (i : ℕ) (m : Message ℕ) → slice_get w.messages i ≡ Some m → oldest_of_pair w.messages i ≡ None
         → carries x.party x.sequence m ≡ true → carried_access m ≡ entry_access x → m.clock < x.stamp.global → Does x
     gathered : (b : ℕ) → b < 16 → serves x.party x.sequence (home_at w b) ≡ true → served_access b (home_at w b) ≡ entry_access x
-        → (home_at w b).directory.request.clock < x.stamp.global → Does x
+        → (round_of (home_at w b).directory).request.clock < x.stamp.global → Does x
 
   -- VALUE brings what an LDio read that is done now.
   pub record Brings (e : Effect A B) (p d : ℕ) (y : Message ℕ) : Type 0 where
@@ -69,7 +70,7 @@ module _ {A B : Type 0} (w : World A B) where
     pub sends : (y : Message ℕ) → Stands (sent e.sent) y → (n s : ℕ) → carries n s y ≡ true → Sent n s y
     pub together : Pairs Follows (sent e.sent)
     pub homes : (b n s : ℕ) → b < 16 → serves n s (home_at e.next b) ≡ true
-        → Carrier n s (home_at e.next b).directory.request.clock (served_access b (home_at e.next b))
+        → Carrier n s (round_of (home_at e.next b).directory).request.clock (served_access b (home_at e.next b))
     pub does : (x : Entry) → e.entry ≡ Some x → Does x
     pub values : (p d : ℕ) → p < 4 → d < 2 → (y : Message ℕ) → Stands (sent e.sent) y → crosses 18 (device_node d) p y ≡ true → Brings e p d y
     pub slots : (p d : ℕ) → p < 4 → d < 2 → awaits (processor_at e.next p) d ≡ 0

@@ -4,6 +4,7 @@ use Rattle.bridge.proofs.Clocks as bridge_clocks
 use Rattle.bridge.specs.Inputs as bridge
 use Rattle.bridge.specs.declared.state.Bridge.{Bridge}
 use Rattle.device.specs.Meaning.{Meaning}
+use Rattle.home.specs.Directories.{round_of}
 use Rattle.home.specs.declared.machine.Home.{Home}
 use Rattle.message.proofs.Soundness.{well_formed_are_sound}
 use Rattle.message.specs.Kinds.{same_kind, is_request}
@@ -73,9 +74,9 @@ module _ {A B : Type 0} (w : World A B) where
     posts : (y : Message ℕ) → Stands (sent e.sent) y → posted r.sent ≡ Some y
     posts y there = posted_one (sent r.sent) (posted r.sent) y (bridge_posts m b d i r h) (subst (λ (o : Outbox). Stands (sent o) y) shows.sends there)
 
-    same_homes : (j n s : ℕ) → j < 16 → serves n s (home_at e.next j) ≡ true → Carrier w n s (home_at e.next j).directory.request.clock (served_access j (home_at e.next j))
+    same_homes : (j n s : ℕ) → j < 16 → serves n s (home_at e.next j) ≡ true → Carrier w n s (round_of (home_at e.next j).directory).request.clock (served_access j (home_at e.next j))
     same_homes j n s low =
-        subst (λ (l : List (Home ℕ)). serves n s (get_or l j no_home) ≡ true → Carrier w n s (get_or l j no_home).directory.request.clock (served_access j (get_or l j no_home)))
+        subst (λ (l : List (Home ℕ)). serves n s (get_or l j no_home) ≡ true → Carrier w n s (round_of (get_or l j no_home).directory).request.clock (served_access j (get_or l j no_home)))
         (sym shows.homes) (λ c. in_home j low c refl refl)
 
     outs_of : (Passes : ℕ → Type 0) → ((k : ℕ) → out r.next.requests k ≡ None → (out b.requests k ≡ None) ⊎ Passes k)

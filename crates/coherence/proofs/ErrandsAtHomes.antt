@@ -1,5 +1,6 @@
 -- What effects at homes do to the operations under way.
 use Rattle.std.proofs.Common.{◌≡◌, ℕ, ◌<◌, true, false, ◌⊎◌, List, [], ◌∷◌, Some, None, Option, sym, refl, ap, subst, inl, inr, ⊎_elim, arith}
+use Rattle.home.specs.Directories.{round_of}
 use Rattle.home.specs.Reactions as home
 use Rattle.home.specs.declared.machine.Home.{Home}
 use Rattle.home.specs.declared.request.Request.{Request}
@@ -68,14 +69,14 @@ module _ {A B : Type 0} (w : World A B) where
     here = get_or-set_same w.homes b r.next no_home (omega (arith, shape.homes))
 
     abbrev Kept : ℕ → ℕ → ℕ → Home ℕ → Type 0
-    Kept j n s k = serves n s k ≡ true → Carrier w n s k.directory.request.clock (served_access j k)
+    Kept j n s k = serves n s k ≡ true → Carrier w n s (round_of k.directory).request.clock (served_access j k)
 
     homes_here : (n s : ℕ) → Kept b n s r.next
     homes_here n s c =
         ⊎_elim
-        (λ (x : (serves n s (home_at w b) ≡ true) × (r.next.directory.request ≡ (home_at w b).directory.request)).
+        (λ (x : (serves n s (home_at w b) ≡ true) × ((round_of r.next.directory).request ≡ (round_of (home_at w b).directory).request)).
         in_home b small x.0 (ap (λ (q : Request). q.clock) (sym x.1)) (ap (λ (q : Request). block_access q.kind b) (sym x.1)))
-        (λ (x : (carries n s m ≡ true) × (carried_access m ≡ served_access b r.next) × (r.next.directory.request.clock ≡ m.clock)).
+        (λ (x : (carries n s m ≡ true) × (carried_access m ≡ served_access b r.next) × ((round_of r.next.directory).request.clock ≡ m.clock)).
         in_message m (comes.at, comes.there) x.0 (sym x.2) x.1)
         (t.gathers n s c)
 

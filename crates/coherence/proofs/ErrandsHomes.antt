@@ -2,7 +2,7 @@
 use Rattle.std.proofs.Common.{◌≡◌, ℕ, ◌<◌, true, false, eqb, ◌⊎◌, IfSome, Some, None, Option, sym, refl, ◌∙◌, inl, inr, arith}
 use Rattle.home.proofs.Back.{one_more}
 use Rattle.home.proofs.Keeps.{by_rule}
-use Rattle.home.specs.Directories.{awaits}
+use Rattle.home.specs.Directories.{round_of, awaits}
 use Rattle.home.specs.Reactions.{clock_after, words_after, finished, reply, nack, asks, ask_one, asked, began, heard_home, after_hearing, awaits_taken, received}
 use Rattle.home.specs.Requests.{request_of, asks_by}
 use Rattle.home.specs.Sets.{has, is_empty}
@@ -24,6 +24,7 @@ use Rattle.trail.specs.declared.entry.Entry.{Entry}
 use Rattle.coherence.proofs.Arising.{never}
 use Rattle.coherence.proofs.Carrying.{carries, gathers, serves, is_block_request, block_access, carried_access, served_access, entry_access}
 use Rattle.coherence.proofs.Orderly.{is_channel}
+use Rattle.coherence.proofs.Phases.{gathers_so}
 use Rattle.coherence.proofs.Tally.{crosses}
 
 -- A message of a home: no channel keeps it, it brings no word, and what it carries is what came.
@@ -35,10 +36,10 @@ pub record GivenBack (m y : Message ℕ) : Type 0 where
 pub record HomeErrands (b : ℕ) (h : Home ℕ) (m : Message ℕ) (x : Reaction (Home ℕ)) : Type 0 where
   pub sends : All (GivenBack m) (sent x.sent)
   pub gathers : (n s : ℕ) → serves n s x.next ≡ true
-      → ((serves n s h ≡ true) × (x.next.directory.request ≡ h.directory.request))
-      ⊎ ((carries n s m ≡ true) × (carried_access m ≡ served_access b x.next) × (x.next.directory.request.clock ≡ m.clock))
+      → ((serves n s h ≡ true) × ((round_of x.next.directory).request ≡ (round_of h.directory).request))
+      ⊎ ((carries n s m ≡ true) × (carried_access m ≡ served_access b x.next) × ((round_of x.next.directory).request.clock ≡ m.clock))
   pub does : (e : Entry) → x.entry ≡ Some e
-      → ((serves e.party e.sequence h ≡ true) × (served_access b h ≡ entry_access e) × (h.directory.request.clock < e.stamp.global))
+      → ((serves e.party e.sequence h ≡ true) × (served_access b h ≡ entry_access e) × ((round_of h.directory).request.clock < e.stamp.global))
       ⊎ ((carries e.party e.sequence m ≡ true) × (carried_access m ≡ entry_access e) × (m.clock < e.stamp.global))
 
 -- the replies, and INV and DOWN
@@ -69,19 +70,19 @@ module _ (m : Message ℕ) (b : ℕ) where
 -- to finish is to do the request's operation
 finish_sends : (g : Home ℕ) (b : ℕ) (m : Message ℕ) → All (GivenBack m) (sent (finished g b).sent)
 finish_sends g b m =
-    (reply_silent m b g.directory.request (words_after g.words g.directory.request) (clock_after g.clock g.directory).global, tt)
+    (reply_silent m b (round_of g.directory).request (words_after g.words (round_of g.directory).request) (clock_after g.clock (round_of g.directory)).global, tt)
 
 module _ (g : Home ℕ) (b : ℕ) (e : Entry) (does : (finished g b).entry ≡ Some e) where
-  finish_kind : is_block_request g.directory.request.kind ≡ true
+  finish_kind : is_block_request (round_of g.directory).request.kind ≡ true
   finish_kind = grind (arith, nat_tests)
 
-  finish_party : (e.party ≡ g.directory.request.requester) × (e.sequence ≡ g.directory.request.sequence)
+  finish_party : (e.party ≡ (round_of g.directory).request.requester) × (e.sequence ≡ (round_of g.directory).request.sequence)
   finish_party = (grind (arith, nat_tests), grind (arith, nat_tests))
 
-  finish_access : entry_access e ≡ block_access g.directory.request.kind b
+  finish_access : entry_access e ≡ block_access (round_of g.directory).request.kind b
   finish_access = grind (arith, nat_tests)
 
-  finish_past : g.directory.request.clock < e.stamp.global
+  finish_past : (round_of g.directory).request.clock < e.stamp.global
   finish_past = grind (arith, nat_tests)
 
 module _ (b : ℕ) (h : Home ℕ) (m : Message ℕ) (at : m.place ≡ b) where
@@ -113,28 +114,25 @@ module _ (b : ℕ) (h : Home ℕ) (m : Message ℕ) (at : m.place ≡ b) where
 
   -- ACK lets the home go on, or finish
   abbrev heard : Home ℕ
-  heard = heard_home h m.sender m.exclusive m.words m.clock
+  heard = heard_home h m
 
-  gathering : awaits h.directory m.sender ≡ true → gathers h ≡ true
-  gathering awaited = grind (arith, nat_tests)
-
-  served : (e : Entry) → gathers h ≡ true → is_block_request h.directory.request.kind ≡ true → e.party ≡ h.directory.request.requester → e.sequence ≡ h.directory.request.sequence
+  served : (e : Entry) → gathers h ≡ true → is_block_request (round_of h.directory).request.kind ≡ true → e.party ≡ (round_of h.directory).request.requester → e.sequence ≡ (round_of h.directory).request.sequence
       → serves e.party e.sequence h ≡ true
   served e busy block party number =
-      and_from (gathers h) _ busy (and_from (is_block_request h.directory.request.kind) _ block
-      (and_from (eqb h.directory.request.requester e.party) (eqb h.directory.request.sequence e.sequence) (eq-eqb _ _ (sym party)) (eq-eqb _ _ (sym number))))
+      and_from (gathers h) _ busy (and_from (is_block_request (round_of h.directory).request.kind) _ block
+      (and_from (eqb (round_of h.directory).request.requester e.party) (eqb (round_of h.directory).request.sequence e.sequence) (eq-eqb _ _ (sym party)) (eq-eqb _ _ (sym number))))
 
   hears : awaits h.directory m.sender ≡ true → HomeErrands b h m (after_hearing heard b)
   hears awaited =
-      cond_both (is_empty heard.directory.awaited) (finished heard b) (quiet heard) (HomeErrands b h m)
+      cond_both (is_empty (round_of heard.directory).awaited) (finished heard b) (quiet heard) (HomeErrands b h m)
       (λ _. record {
         sends = finish_sends heard b m;
         gathers = λ n q c. absurd (both_ways false refl c);
         does = λ e does.
             let p = finish_party heard b e does in
-            inl (served e (gathering awaited) (finish_kind heard b e does) p.0 p.1, sym (finish_access heard b e does), finish_past heard b e does);
+            inl (served e (gathers_so h m.sender awaited) (finish_kind heard b e does) p.0 p.1, sym (finish_access heard b e does), finish_past heard b e does);
       })
-      (λ _. record { sends = tt; gathers = λ n q c. inl (c, refl); does = λ e does. never cc })
+      (λ _. record { sends = tt; gathers = λ n q c. inl (and_from (gathers h) _ (gathers_so h m.sender awaited) c, refl); does = λ e does. never cc })
 
   pub home_errands : IfSome (received h b m) (HomeErrands b h m)
   home_errands =

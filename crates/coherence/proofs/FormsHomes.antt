@@ -1,7 +1,7 @@
 -- What a home sends is well formed, and what it keeps stays so.
 use Rattle.std.proofs.Common.{◌≡◌, ℕ, ◌<◌, Bool, true, false, cond, ◌&&◌, ltb, leb, IfSome, Some, None, Option, refl, arith}
 use Rattle.home.proofs.Back.{one_more}
-use Rattle.home.specs.Directories.{view, awaits}
+use Rattle.home.specs.Directories.{round_of, view, awaits}
 use Rattle.home.specs.Laws.{is_free}
 use Rattle.home.specs.Plans.{plan}
 use Rattle.home.specs.Reactions.{clock_after, words_after, reply, finished, nack, ask_one, asks, began, asked, planned, heard_home, after_hearing, acknowledged, awaits_taken, taken, received}
@@ -9,7 +9,7 @@ use Rattle.home.specs.Requests.{request_of, asks_down, asks_by, reply_kind, carr
 use Rattle.home.specs.Sets.{has, with_member, is_empty}
 use Rattle.home.specs.declared.machine.Home.{Home}
 use Rattle.home.specs.declared.plan.Plan.{Plan}
-use Rattle.home.specs.declared.plan.Plan.TheVariants.{Nothing, Refuse, Ask}
+use Rattle.home.specs.declared.plan.Plan.TheVariants.{Refuse, Ask}
 use Rattle.home.specs.declared.processors.Processors.{Processors}
 use Rattle.home.specs.declared.request.Request.{Request}
 use Rattle.message.specs.Checks.{has_processor, end_fits, fits}
@@ -107,15 +107,15 @@ module _ (f : Figures) (b : ℕ) (small : b < 16) where
   finish_good k well busy = record {
     next = record {
       holders =
-          cond_both (gives_copy k.directory.request.kind) (with_member k.directory.holders k.directory.request.requester true) k.directory.holders (OnBoard f)
-          (λ gives. one_more_on_board f k.directory.holders k.directory.request.requester (copy_goes_to_processor f b k.directory.request (well.request busy) gives) well.holders)
+          cond_both (gives_copy (round_of k.directory).request.kind) (with_member k.directory.holders (round_of k.directory).request.requester true) k.directory.holders (OnBoard f)
+          (λ gives. one_more_on_board f k.directory.holders (round_of k.directory).request.requester (copy_goes_to_processor f b (round_of k.directory).request (well.request busy) gives) well.holders)
           (λ _. well.holders);
       awaited = nobody_on_board f;
       request = λ _. well.request busy;
     };
     sends = λ within. (
-      reply_well k.directory.request (words_after k.words k.directory.request) (clock_after k.clock k.directory).global (well.request busy)
-          (global_within (clock_after k.clock k.directory) within),
+      reply_well (round_of k.directory).request (words_after k.words (round_of k.directory).request) (clock_after k.clock (round_of k.directory)).global (well.request busy)
+          (global_within (clock_after k.clock (round_of k.directory)) within),
       tt,
     );
   }
@@ -132,49 +132,49 @@ module _ (f : Figures) (b : ℕ) (small : b < 16) where
   busy_if_awaiting : (h : Home ℕ) (p : ℕ) → awaits h.directory p ≡ true → is_free h ≡ false
   busy_if_awaiting h p e = grind (arith, nat_tests)
 
-  heard_good : (h : Home ℕ) (p : ℕ) (mark : Bool) (w : Words) (c : ℕ) → HomeWell f b h → is_free h ≡ false → HomeWell f b (heard_home h p mark w c)
-  heard_good h p mark w c well busy = record {
+  heard_good : (h : Home ℕ) (m : Message ℕ) → HomeWell f b h → is_free h ≡ false → HomeWell f b (heard_home h m)
+  heard_good h m well busy = record {
     holders =
-        cond_both (asks_down h.directory.request.kind) h.directory.holders (with_member h.directory.holders p false) (OnBoard f)
+        cond_both (asks_down (round_of h.directory).request.kind) h.directory.holders (with_member h.directory.holders m.sender false) (OnBoard f)
         (λ _. well.holders)
-        (λ _ q e. well.holders q (fewer h.directory.holders p q e));
-    awaited = λ q e. well.awaited q (fewer h.directory.awaited p q e);
+        (λ _ q e. well.holders q (fewer h.directory.holders m.sender q e));
+    awaited = λ q e. well.awaited q (fewer (round_of h.directory).awaited m.sender q e);
     request = λ _. well.request busy;
   }
 
-  ack_good : (h : Home ℕ) (p : ℕ) (mark : Bool) (w : Words) (c : ℕ) → HomeWell f b h → IfSome (acknowledged h b p mark w c) (HomeGood f b)
-  ack_good h p mark w c well =
-      cond_both (awaits h.directory p) (Some (after_hearing k b)) None (λ (o : Option (Reaction (Home ℕ))). IfSome o (HomeGood f b))
+  ack_good : (h : Home ℕ) (m : Message ℕ) → HomeWell f b h → IfSome (acknowledged h b m) (HomeGood f b)
+  ack_good h m well =
+      cond_both (awaits h.directory m.sender) (Some (after_hearing k b)) None (λ (o : Option (Reaction (Home ℕ))). IfSome o (HomeGood f b))
       (λ waits.
-      let busy = busy_if_awaiting h p waits in
-      let heard = heard_good h p mark w c well busy in
-      cond_both (is_empty k.directory.awaited) (finished k b) (quiet k) (HomeGood f b) (λ _. finish_good k heard busy) (λ _. record { next = heard; sends = λ _. tt }))
+      let busy = busy_if_awaiting h m.sender waits in
+      let heard = heard_good h m well busy in
+      cond_both (is_empty (round_of k.directory).awaited) (finished k b) (quiet k) (HomeGood f b) (λ _. finish_good k heard refl) (λ _. record { next = heard; sends = λ _. tt }))
       (λ _. tt)
     where
       k : Home ℕ
-      k = heard_home h p mark w c
+      k = heard_home h m
 
   taken_good : (h : Home ℕ) (n : ℕ) → HomeWell f b h → IfSome (taken h n) (HomeGood f b)
   taken_good h n well =
       cond_both (awaits_taken h.directory n) _ None (λ (o : Option (Reaction (Home ℕ))). IfSome o (HomeGood f b))
       (λ _. record {
-        next = record { holders = well.holders; awaited = well.awaited; request = λ no. absurd (both_ways true no refl) };
+        next = record { holders = well.holders; awaited = nobody_on_board f; request = λ no. absurd (both_ways true no refl) };
         sends = λ _. tt;
       })
       (λ _. tt)
 
-  planned_good : (h : Home ℕ) (m : Message ℕ) (x : Plan) → HomeWell f b h → Well f m → m.receiver ≡ home_node b → PlanGood m.kind h.directory.holders x
+  planned_good : (h : Home ℕ) (m : Message ℕ) (x : Option Plan) → HomeWell f b h → Well f m → m.receiver ≡ home_node b → PlanGood m.kind h.directory.holders x
       → IfSome (planned h b (request_of m) x) (HomeGood f b)
-  planned_good h m Nothing well form to good = tt
-  planned_good h m Refuse well form to good = record { next = well; sends = λ _. (nack_well (request_of m) (request_kept f b m form to good), tt) }
-  planned_good h m (Ask s) well form to good = asked_good h (request_of m) s well (request_kept f b m form to good.0) (λ q e. well.holders q (good.1 q e))
+  planned_good h m None well form to good = tt
+  planned_good h m (Some Refuse) well form to good = record { next = well; sends = λ _. (nack_well (request_of m) (request_kept f b m form to good), tt) }
+  planned_good h m (Some (Ask s)) well form to good = asked_good h (request_of m) s well (request_kept f b m form to good.0) (λ q e. well.holders q (good.1 q e))
 
   pub home_good : (h : Home ℕ) (m : Message ℕ) → HomeWell f b h → Well f m → m.receiver ≡ home_node b → IfSome (received h b m) (HomeGood f b)
   home_good h m well form to =
       let Q : Option (Reaction (Home ℕ)) → Type 0 = λ o. IfSome o (HomeGood f b) in
       cond_both (ltb b 16) _ None Q
       (λ _. cond_both (same_kind m.kind kind.Ack) _ _ Q
-      (λ _. ack_good h m.sender m.exclusive m.words m.clock well)
+      (λ _. ack_good h m well)
       (λ _. cond_both (same_kind m.kind kind.Taken) _ _ Q
       (λ _. taken_good h m.sender well)
       (λ _. planned_good h m (plan m.kind (view h.directory) h.directory.holders m.sender) well form to (plan_good m.kind (view h.directory) h.directory.holders m.sender))))

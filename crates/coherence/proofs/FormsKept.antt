@@ -1,14 +1,15 @@
 -- What a home keeps is well formed: the request that it has taken, and holders and awaited that are the board's.
-use Rattle.std.proofs.Common.{◌≡◌, ℕ, zero, suc, Bool, true, false, None, Option, sym, refl, ◌∙◌, subst, ⊎_elim, arith}
+use Rattle.std.proofs.Common.{◌≡◌, ℕ, zero, suc, Bool, true, false, Some, None, Option, sym, refl, ◌∙◌, subst, ⊎_elim, arith}
+use Rattle.home.specs.Directories.{round_of}
 use Rattle.home.specs.Laws.{is_free}
-use Rattle.home.specs.Plans.{plan, column, newcomer, holder, at_once, ask_others}
+use Rattle.home.specs.Plans.{refuse, ask, plan, column, newcomer, holder, at_once, ask_others}
 use Rattle.home.specs.Requests.{request_of, gives_copy}
 use Rattle.home.specs.Sets.{nobody, has, with_member}
 use Rattle.home.specs.declared.directory.View.{View}
 use Rattle.home.specs.declared.directory.View.TheVariants as view
 use Rattle.home.specs.declared.machine.Home.{Home}
 use Rattle.home.specs.declared.plan.Plan.{Plan}
-use Rattle.home.specs.declared.plan.Plan.TheVariants.{Nothing, Refuse, Ask}
+use Rattle.home.specs.declared.plan.Plan.TheVariants.{Refuse, Ask}
 use Rattle.home.specs.declared.processors.Processors.{Processors}
 use Rattle.home.specs.declared.request.Request.{Request}
 use Rattle.message.proofs.Soundness.{well_formed_are_sound}
@@ -48,8 +49,8 @@ OnBoard f s = (p : ℕ) → has s p ≡ true → has_processor f p ≡ true
 
 pub record HomeWell (f : Figures) (b : ℕ) (h : Home ℕ) : Type 0 where
   pub holders : OnBoard f h.directory.holders
-  pub awaited : OnBoard f h.directory.awaited
-  pub request : is_free h ≡ false → RequestWell f b h.directory.request
+  pub awaited : OnBoard f (round_of h.directory).awaited
+  pub request : is_free h ≡ false → RequestWell f b (round_of h.directory).request
 
 request_row : (k : Kind) → is_request k ≡ true → same_kind k kind.Nack ≡ false
 request_row k h = grind (arith, nat_tests)
@@ -127,25 +128,25 @@ copy_goes_to_processor f b r w gives = go r.kind refl gives
     go kind.Taken is g = absurd (both_ways false refl g)
 
 -- A plan is for a request, and asks holders alone.
-abbrev pub PlanGood : Kind → Processors → Plan → Type 0
-PlanGood k h Nothing = Unit {0}
-PlanGood k h Refuse = is_request k ≡ true
-PlanGood k h (Ask s) = (is_request k ≡ true) × ((q : ℕ) → has s q ≡ true → has h q ≡ true)
+abbrev pub PlanGood : Kind → Processors → Option Plan → Type 0
+PlanGood k h None = Unit {0}
+PlanGood k h (Some Refuse) = is_request k ≡ true
+PlanGood k h (Some (Ask s)) = (is_request k ≡ true) × ((q : ℕ) → has s q ≡ true → has h q ≡ true)
 
 module _ (k : Kind) (h : Processors) (asks : is_request k ≡ true) where
   once_good : PlanGood k h at_once
   once_good = (asks, λ q e. absurd (both_ways (has nobody q) (nobody_has q) e))
 
-  all_good : PlanGood k h (Ask h)
+  all_good : PlanGood k h (ask h)
   all_good = (asks, λ q e. e)
 
-  newcomer_good : (p : ℕ) (x : Plan) → PlanGood k h x → PlanGood k h (newcomer h p x)
-  newcomer_good p x good = cond_both (has h p) Nothing x (PlanGood k h) (λ _. tt) (λ _. good)
+  newcomer_good : (p : ℕ) (x : Option Plan) → PlanGood k h x → PlanGood k h (newcomer h p x)
+  newcomer_good p x good = cond_both (has h p) None x (PlanGood k h) (λ _. tt) (λ _. good)
 
-  holder_good : (p : ℕ) (x : Plan) → PlanGood k h x → PlanGood k h (holder h p x)
-  holder_good p x good = cond_both (has h p) x Refuse (PlanGood k h) (λ _. good) (λ _. asks)
+  holder_good : (p : ℕ) (x : Option Plan) → PlanGood k h x → PlanGood k h (holder h p x)
+  holder_good p x good = cond_both (has h p) x refuse (PlanGood k h) (λ _. good) (λ _. asks)
 
-  column_good : (v : View) (i s x : Plan) → PlanGood k h i → PlanGood k h s → PlanGood k h x → PlanGood k h (column v i s x)
+  column_good : (v : View) (i s x : Option Plan) → PlanGood k h i → PlanGood k h s → PlanGood k h x → PlanGood k h (column v i s x)
   column_good view.Idle i s x a b c = a
   column_good view.Shared i s x a b c = b
   column_good view.Exclusive i s x a b c = c
@@ -153,19 +154,19 @@ module _ (k : Kind) (h : Processors) (asks : is_request k ≡ true) where
 
 pub plan_good : (k : Kind) (v : View) (h : Processors) (p : ℕ) → PlanGood k h (plan k v h p)
 plan_good kind.Gets v h p =
-    column_good kind.Gets h refl v (newcomer h p at_once) (newcomer h p at_once) (newcomer h p (Ask h))
-    (newcomer_good kind.Gets h refl p at_once (once_good kind.Gets h refl)) (newcomer_good kind.Gets h refl p at_once (once_good kind.Gets h refl)) (newcomer_good kind.Gets h refl p (Ask h) (all_good kind.Gets h refl))
+    column_good kind.Gets h refl v (newcomer h p at_once) (newcomer h p at_once) (newcomer h p (ask h))
+    (newcomer_good kind.Gets h refl p at_once (once_good kind.Gets h refl)) (newcomer_good kind.Gets h refl p at_once (once_good kind.Gets h refl)) (newcomer_good kind.Gets h refl p (ask h) (all_good kind.Gets h refl))
 plan_good kind.Getx v h p =
-    column_good kind.Getx h refl v (newcomer h p at_once) (newcomer h p (Ask h)) (newcomer h p (Ask h))
-    (newcomer_good kind.Getx h refl p at_once (once_good kind.Getx h refl)) (newcomer_good kind.Getx h refl p (Ask h) (all_good kind.Getx h refl)) (newcomer_good kind.Getx h refl p (Ask h) (all_good kind.Getx h refl))
+    column_good kind.Getx h refl v (newcomer h p at_once) (newcomer h p (ask h)) (newcomer h p (ask h))
+    (newcomer_good kind.Getx h refl p at_once (once_good kind.Getx h refl)) (newcomer_good kind.Getx h refl p (ask h) (all_good kind.Getx h refl)) (newcomer_good kind.Getx h refl p (ask h) (all_good kind.Getx h refl))
 plan_good kind.Upg v h p =
-    column_good kind.Upg h refl v Refuse (holder h p (ask_others h p)) Refuse
+    column_good kind.Upg h refl v refuse (holder h p (ask_others h p)) refuse
     refl (holder_good kind.Upg h refl p (ask_others h p) (refl, λ q e. fewer h p q e)) refl
 plan_good kind.Wb v h p =
-    column_good kind.Wb h refl v Refuse Refuse (holder h p (Ask h))
-    refl refl (holder_good kind.Wb h refl p (Ask h) (all_good kind.Wb h refl))
-plan_good kind.Rblk v h p = column_good kind.Rblk h refl v at_once at_once (Ask h) (once_good kind.Rblk h refl) (once_good kind.Rblk h refl) (all_good kind.Rblk h refl)
-plan_good kind.Wblk v h p = column_good kind.Wblk h refl v at_once (Ask h) (Ask h) (once_good kind.Wblk h refl) (all_good kind.Wblk h refl) (all_good kind.Wblk h refl)
+    column_good kind.Wb h refl v refuse refuse (holder h p (ask h))
+    refl refl (holder_good kind.Wb h refl p (ask h) (all_good kind.Wb h refl))
+plan_good kind.Rblk v h p = column_good kind.Rblk h refl v at_once at_once (ask h) (once_good kind.Rblk h refl) (once_good kind.Rblk h refl) (all_good kind.Rblk h refl)
+plan_good kind.Wblk v h p = column_good kind.Wblk h refl v at_once (ask h) (ask h) (once_good kind.Wblk h refl) (all_good kind.Wblk h refl) (all_good kind.Wblk h refl)
 plan_good kind.Rio v h p = tt
 plan_good kind.Wio v h p = tt
 plan_good kind.Int v h p = tt

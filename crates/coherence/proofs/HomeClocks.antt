@@ -1,11 +1,11 @@
 -- A home's clock: it stays or passes, and its operation is stamped with it.
 use Rattle.std.proofs.Common.{◌≡◌, ℕ, ◌<◌, max, true, false, ◌⊎◌, is_some, IfSome, Some, None, Option, refl, ap, ◌∙◌, inl, inr, arith}
 use Rattle.home.proofs.Keeps.{by_rule}
-use Rattle.home.specs.Directories.{awaits}
+use Rattle.home.specs.Directories.{round_of, awaits}
 use Rattle.home.specs.Reactions.{clock_after, entry_for, finished, refused, began, heard_home, after_hearing, clock_freed, awaits_taken, received, words_after}
 use Rattle.home.specs.Requests.{operation_for, request_of}
 use Rattle.home.specs.Sets.{is_empty}
-use Rattle.home.specs.declared.directory.Directory.{Directory}
+use Rattle.home.specs.declared.directory.Round.{Round}
 use Rattle.home.specs.declared.machine.Home.{Home}
 use Rattle.home.specs.declared.request.Request.{Request}
 use Rattle.message.specs.Nodes.{home_node, is_device}
@@ -36,9 +36,9 @@ pub record HomeTimely (c : Clock ℕ) (b : ℕ) (x : Reaction (Home ℕ)) : Type
   pub rises : is_some x.entry ≡ true → c.global < x.next.clock.global
   pub enters : (e : Entry) → x.entry ≡ Some e → BlockOperation b e
 
-above : (c : Clock ℕ) (d : Directory) → c.global < (clock_after c d).global
-above c d =
-    cond_both (is_some (operation_for d.request.kind)) (counted (passed c (max d.latest d.request.clock))) (passed c d.latest)
+above : (c : Clock ℕ) (g : Round) → c.global < (clock_after c g).global
+above c g =
+    cond_both (is_some (operation_for g.request.kind)) (counted (passed c (max g.latest g.request.clock))) (passed c g.latest)
     (λ (k : Clock ℕ). c.global < k.global) (λ _. omega arith) (λ _. omega arith)
 
 on_blocks : (k : Kind) (o : Operation) → operation_for k ≡ Some o → is_block o ≡ true
@@ -59,13 +59,14 @@ finish_enters b r w c e h = go (operation_for r.kind) refl h
 
 pub finishes : (h : Home ℕ) (b : ℕ) → HomeTimely h.clock b (finished h b)
 finishes h b =
-    let c = clock_after h.clock h.directory in
-    let w = words_after h.words h.directory.request in
+    let g = round_of h.directory in
+    let c = clock_after h.clock g in
+    let w = words_after h.words g.request in
     record {
-      onward = inr (above h.clock h.directory);
-      stamps = λ e is. (finish_enters b h.directory.request w c e is).0;
-      rises = λ _. above h.clock h.directory;
-      enters = λ e is. (finish_enters b h.directory.request w c e is).1;
+      onward = inr (above h.clock g);
+      stamps = λ e is. (finish_enters b g.request w c e is).0;
+      rises = λ _. above h.clock g;
+      enters = λ e is. (finish_enters b g.request w c e is).1;
     }
 
 -- nothing is done, and the clock stays or passes
@@ -80,14 +81,14 @@ pub home_timely : (h : Home ℕ) (b : ℕ) (m : Message ℕ) → IfSome (receive
 home_timely h b m =
     by_rule (HomeTimely h.clock b) h b m
     (λ _. cond_both (awaits h.directory m.sender) (Some (after_hearing k b)) None Found
-    (λ _. cond_both (is_empty k.directory.awaited) (finished k b) (quiet k) (HomeTimely h.clock b) (λ _. finishes k b) (λ _. rests h.clock b (quiet k) refl (inl refl)))
+    (λ _. cond_both (is_empty (round_of k.directory).awaited) (finished k b) (quiet k) (HomeTimely h.clock b) (λ _. finishes k b) (λ _. rests h.clock b (quiet k) refl (inl refl)))
     (λ _. tt))
     (cond_both (awaits_taken h.directory m.sender) _ None Found (λ _. rests h.clock b _ refl (freed h.clock m.sender)) (λ _. tt))
     (rests h.clock b (refused h b (request_of m)) refl (inl refl))
     (λ _ s. cond_both (is_empty s) (finished (began h (request_of m)) b) _ (HomeTimely h.clock b) (λ _. finishes (began h (request_of m)) b) (λ _. rests h.clock b _ refl (inl refl)))
   where
     k : Home ℕ
-    k = heard_home h m.sender m.exclusive m.words m.clock
+    k = heard_home h m
 
     Found : Option (Reaction (Home ℕ)) → Type 0
     Found o = IfSome o (HomeTimely h.clock b)

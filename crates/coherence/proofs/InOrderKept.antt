@@ -1,6 +1,7 @@
 -- Every call keeps the order of operations: whatever is done now, all that comes before it is done, with a smaller stamp.
 use Rattle.std.proofs.Common.{◌≡◌, ℕ, ◌+◌, ◌-◌, ◌<◌, ◌≤◌, true, false, ◌&&◌, eqb, ◌⊎◌, Some, sym, refl, ap, ◌∙◌, subst, inl, inr, ⊎_elim, arith}
 use Rattle.device.specs.Meaning.{Meaning}
+use Rattle.home.specs.Directories.{round_of}
 use Rattle.message.specs.Nodes.{is_device}
 use Rattle.message.specs.declared.figures.Figures.{Figures}
 use Rattle.ordering.specs.Operations.{is, is_block}
@@ -141,8 +142,8 @@ module _ {A B : Type 0} (ma : Meaning A) (mb : Meaning B) (f : Figures) (c : Cal
       ready (gathered b small served goes past) =
           let before' = subst (λ (a : Access). ordered (party_of x.party) z.access a ≡ true) (sym goes) before in
           let other = no_block_channel z.access (served_access b (home_at w b)) (serves_block b (home_at w b)) in
-          by_clock z (home_at w b).directory.request.clock
-          (subst (λ (n : ℕ). DoneBy w.trail n z.sequence (home_at w b).directory.request.clock) (sym party)
+          by_clock z (round_of (home_at w b).directory).request.clock
+          (subst (λ (n : ℕ). DoneBy w.trail n z.sequence (round_of (home_at w b).directory).request.clock) (sym party)
           ((line.homes b x.party x.sequence small served).settled z sz party lower before' other)) past
 
   abbrev Early : Issued → Entry → Type 0

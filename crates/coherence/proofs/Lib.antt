@@ -67,6 +67,7 @@ pub mod OrderPromise
 pub mod OrderTables
 pub mod Orderly
 pub mod OrderlyKept
+pub mod Phases
 pub mod Plans
 pub mod Posting
 pub mod Posts

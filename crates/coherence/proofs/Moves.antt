@@ -1,13 +1,13 @@
 -- The moves of one block's protocol: every accepted call is one of them for each block, or two in turn, where a home that
 -- takes a request or hears the last acknowledgement also finishes. x is the block before, y after.
 use Rattle.std.proofs.Common.{◌≡◌, ℕ, ◌/◌, ◌<◌, ◌≤◌, true, cond, eqb, ◌⊎◌, [], ◌∷◌, ◌++◌, length, Some, None, Option}
-use Rattle.home.specs.Directories.{view, awaits, freed}
+use Rattle.home.specs.Directories.{round_of, view, awaits, freed}
 use Rattle.home.specs.Homes.{home}
 use Rattle.home.specs.Plans.{plan}
 use Rattle.home.specs.Reactions.{reply, finished, asks, asking_home, heard_home, clock_freed, awaits_taken}
 use Rattle.home.specs.Requests.{request_of, asks_by}
 use Rattle.home.specs.Sets.{nobody, is_empty}
-use Rattle.home.specs.declared.directory.Phase.TheVariants.{Free, Gathering}
+use Rattle.home.specs.declared.directory.Phase.TheVariants.{Free}
 use Rattle.home.specs.declared.plan.Plan.TheVariants.{Ask}
 use Rattle.home.specs.declared.processors.Processors.{Processors}
 use Rattle.message.specs.Kinds.{kind_number, is_request}
@@ -28,7 +28,7 @@ use Rattle.processor.specs.declared.line.Line.TheVariants.{Invalid, Shared, Excl
 use Rattle.std.specs.Option.{option_to_list}
 use Rattle.trail.specs.declared.entry.Entry.{Entry}
 use Rattle.coherence.proofs.Blocks.{Block, Posted, token, peer, done_to_device}
-use Rattle.coherence.proofs.Carrying.{is_block_request}
+use Rattle.coherence.proofs.Carrying.{gathers, is_block_request}
 use Rattle.coherence.proofs.Classes.{marked_ack, refusal_of}
 
 -- An operation of processor p on word w of memory, at global number c.
@@ -169,7 +169,7 @@ module _ (b : ℕ) (x y : Block) where
   -- The home takes the request m and asks those of the set s, or, where there is nobody to ask, nobody.
   pub record AsksHolders (m : Message ℕ) (t s : Processors) : Type 0 where
     pub free : x.home.directory.phase ≡ Free
-    pub planned : plan m.kind (view x.home.directory) x.home.directory.holders m.sender ≡ Ask t
+    pub planned : plan m.kind (view x.home.directory) x.home.directory.holders m.sender ≡ Some (Ask t)
     pub asked : (s ≡ t) ⊎ ((s ≡ nobody) × (is_empty t ≡ true))
     pub request : is_request m.kind ≡ true
     pub class : token m ≡ kind_number m.kind
@@ -181,29 +181,29 @@ module _ (b : ℕ) (x y : Block) where
     pub messages : Posted x.messages (m ∷ []) (sent (asks (asks_by m.kind) b s)) y.messages
     pub trail : y.trail ≡ x.trail
 
-  -- The home hears the acknowledgement m of processor p.
-  pub record Hears (p : ℕ) (m : Message ℕ) : Type 0 where
-    pub small : p < 4
-    pub awaited : awaits x.home.directory p ≡ true
+  -- The home hears the acknowledgement m.
+  pub record Hears (m : Message ℕ) : Type 0 where
+    pub small : m.sender < 4
+    pub awaited : awaits x.home.directory m.sender ≡ true
     pub class : token m ≡ cond m.exclusive marked_ack (kind_number kind.Ack)
-    pub end : peer m ≡ p
+    pub end : peer m ≡ m.sender
     pub lines : LinesStay
     pub outs : OutsStay
     pub clocks : ClocksStay
-    pub home : y.home ≡ heard_home x.home p m.exclusive m.words m.clock
+    pub home : y.home ≡ heard_home x.home m
     pub messages : Posted x.messages (m ∷ []) [] y.messages
     pub trail : y.trail ≡ x.trail
 
   -- All who were asked are heard: the home does what was asked for, and replies.
   pub record Finishes : Type 0 where
-    pub gathering : x.home.directory.phase ≡ Gathering
-    pub request : is_request x.home.directory.request.kind ≡ true
-    pub heard : is_empty x.home.directory.awaited ≡ true
+    pub gathering : gathers x.home ≡ true
+    pub request : is_request (round_of x.home.directory).request.kind ≡ true
+    pub heard : is_empty (round_of x.home.directory).awaited ≡ true
     pub lines : LinesStay
     pub outs : OutsStay
     pub clocks : ClocksStay
     pub home : y.home ≡ (finished x.home b).next
-    pub messages : Posted x.messages [] (reply b x.home.directory.request y.home.words y.home.clock.global ∷ []) y.messages
+    pub messages : Posted x.messages [] (reply b (round_of x.home.directory).request y.home.words y.home.clock.global ∷ []) y.messages
     pub trail : y.trail ≡ x.trail ++ option_to_list (finished x.home b).entry
 
   -- The home gets TAKEN, m, from node n.
@@ -236,7 +236,7 @@ module _ (b : ℕ) (x y : Block) where
     again : (n : ℕ) (k : Kind) (m a : Message ℕ) → is_request k ≡ true → Returns n (refusal_of k) (kind_number k) m a → Moves
     refuses : (n : ℕ) (k : Kind) (m a : Message ℕ) → is_request k ≡ true → Returns n (kind_number k) (refusal_of k) m a → Moves
     asks_holders : (m : Message ℕ) (t s : Processors) → AsksHolders m t s → Moves
-    hears : (p : ℕ) (m : Message ℕ) → Hears p m → Moves
+    hears : (m : Message ℕ) → Hears m → Moves
     finishes : Finishes → Moves
     frees : (n : ℕ) (m : Message ℕ) → Frees n m → Moves
 

@@ -2,7 +2,7 @@
 use Rattle.std.proofs.Common.{◌≡◌, ℕ, true, false, ◌||◌, eqb, [], IfSome, Some, None, filter, Option, sym, refl, ◌∙◌, subst, arith}
 use Rattle.home.proofs.Back.{one_more}
 use Rattle.home.proofs.Keeps.{by_rule}
-use Rattle.home.specs.Directories.{view, awaits}
+use Rattle.home.specs.Directories.{round_of, view, awaits}
 use Rattle.home.specs.Plans.{plan}
 use Rattle.home.specs.Reactions.{finished, ask_one, asks, began, heard_home, after_hearing, awaits_taken, received}
 use Rattle.home.specs.Requests.{request_of, asks_by, reply_kind}
@@ -46,7 +46,7 @@ sends_own : (a : ℕ) (h : Home ℕ) (m : Message ℕ) → IfSome (received h a 
 sends_own a h m =
     by_rule Own h a m
     (λ _. cond_both (awaits h.directory m.sender) (Some (after_hearing k a)) None Found
-    (λ _. cond_both (is_empty k.directory.awaited) (finished k a) (quiet k) Own (λ _. (refl, tt)) (λ _. tt))
+    (λ _. cond_both (is_empty (round_of k.directory).awaited) (finished k a) (quiet k) Own (λ _. (refl, tt)) (λ _. tt))
     (λ _. tt))
     (cond_both (awaits_taken h.directory m.sender) _ None Found (λ _. tt) (λ _. tt))
     (refl, tt)
@@ -59,7 +59,7 @@ sends_own a h m =
     Found o = IfSome o Own
 
     k : Home ℕ
-    k = heard_home h m.sender m.exclusive m.words m.clock
+    k = heard_home h m
 
 -- So it is about no other block, and neither is what it does.
 module _ (a b : ℕ) (apart : a ≡ b → ⊥) (h : Home ℕ) (m : Message ℕ) (r : Reaction (Home ℕ)) (is : received h a m ≡ Some r) where
@@ -91,17 +91,17 @@ replies_come k = grind (arith, nat_tests)
 pub questions_come : (k : Kind) → (goes_home (asks_by k) || comes_from_home (asks_by k)) ≡ true
 questions_come k = grind (arith, nat_tests)
 
-busy_refuses : (k : Kind) (h s : Processors) (p : ℕ) → plan k Busy h p ≡ Ask s → ⊥
+busy_refuses : (k : Kind) (h s : Processors) (p : ℕ) → plan k Busy h p ≡ Some (Ask s) → ⊥
 busy_refuses k h s p is = grind (arith, nat_tests)
 
 -- a home that asks is free
-pub asks_if_free : (d : Directory) (k : Kind) (s : Processors) (p : ℕ) → plan k (view d) d.holders p ≡ Ask s → d.phase ≡ Free
+pub asks_if_free : (d : Directory) (k : Kind) (s : Processors) (p : ℕ) → plan k (view d) d.holders p ≡ Some (Ask s) → d.phase ≡ Free
 asks_if_free d k s p is = go d.phase refl
   where
     busy : view d ≡ Busy → ⊥
-    busy at = busy_refuses k d.holders s p (subst (λ (v : View). plan k v d.holders p ≡ Ask s) at is)
+    busy at = busy_refuses k d.holders s p (subst (λ (v : View). plan k v d.holders p ≡ Some (Ask s)) at is)
 
     go : (f : Phase) → d.phase ≡ f → d.phase ≡ Free
     go Free at = at
-    go Gathering at = absurd (busy (rw at refl))
-    go Replied at = absurd (busy (rw at refl))
+    go (Gathering g) at = absurd (busy (rw at refl))
+    go (Replied r) at = absurd (busy (rw at refl))

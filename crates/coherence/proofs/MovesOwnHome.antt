@@ -1,18 +1,15 @@
 -- A message that reaches its block's home is one move, or two: a request taken or the last acknowledgement heard, and then
 -- the home finishes.
 use Rattle.std.proofs.Common.{◌≡◌, ℕ, ◌<◌, Bool, true, false, cond, ◌||◌, eqb, ltb, ◌⊎◌, List, [], ◌∷◌, ◌++◌, length, get_or, Some, None, filter, Option, sym, refl, ap, ◌∙◌, subst, inl, inr, arith}
-use Rattle.home.specs.Directories.{view, awaits, freed}
+use Rattle.home.specs.Directories.{round_of, view, awaits, freed}
 use Rattle.home.specs.Homes.{home}
 use Rattle.home.specs.Plans.{plan}
 use Rattle.home.specs.Reactions.{reply, finished, nack, refused, asks, asking_home, began, asked, planned, heard_home, after_hearing, acknowledged, clock_freed, awaits_taken, taken, requested, received}
 use Rattle.home.specs.Requests.{request_of, asks_by}
-use Rattle.home.specs.Sets.{nobody, has, is_empty}
-use Rattle.home.specs.declared.directory.Directory.{Directory}
-use Rattle.home.specs.declared.directory.Phase.{Phase}
-use Rattle.home.specs.declared.directory.Phase.TheVariants.{Free, Gathering, Replied}
+use Rattle.home.specs.Sets.{nobody, is_empty}
 use Rattle.home.specs.declared.machine.Home.{Home}
 use Rattle.home.specs.declared.plan.Plan.{Plan}
-use Rattle.home.specs.declared.plan.Plan.TheVariants.{Nothing, Refuse, Ask}
+use Rattle.home.specs.declared.plan.Plan.TheVariants.{Refuse, Ask}
 use Rattle.home.specs.declared.processors.Processors.{Processors}
 use Rattle.list.specs.Contents.{removed}
 use Rattle.message.proofs.Numbering.{numbers_tell_kinds}
@@ -31,12 +28,14 @@ use Rattle.std.specs.Option.{option_to_list}
 use Rattle.trail.specs.declared.entry.Entry.{Entry}
 use Rattle.coherence.proofs.Arising.{allowed, never}
 use Rattle.coherence.proofs.Blocks.{Block, Posted, block, about, on, token}
+use Rattle.coherence.proofs.Carrying.{gathers}
 use Rattle.coherence.proofs.Classes.{marked_ack}
 use Rattle.coherence.proofs.Clocks.{Shape}
 use Rattle.coherence.proofs.FormsKept.{PlanGood, plan_good}
 use Rattle.coherence.proofs.HomeClocks.{finishes as timely}
 use Rattle.coherence.proofs.Moves.{Moves, Passes, once, twice, refuses, asks_holders, hears, finishes, frees}
 use Rattle.coherence.proofs.MovesHomes.{each_asked, request_class, replies_come, questions_come, asks_if_free}
+use Rattle.coherence.proofs.Phases.{gathers_so}
 use Rattle.coherence.proofs.Posts.{kept_added, kept_all, kept_one, posted_call, posted_delivery}
 use Rattle.coherence.proofs.Stepping.{after}
 use Rattle.coherence.specs.Steps.{by_home}
@@ -44,7 +43,7 @@ use Rattle.coherence.specs.Worlds.{World, home_at, no_home}
 
 module _ {A B : Type 0} (w : World A B) (shape : Shape w) (b : ℕ) (low : b < 16)
     (i : ℕ) (there : i < length w.messages) (m : Message ℕ) (is : get_or w.messages i no_message ≡ m) (place : m.place ≡ b)
-    (acks : m.kind ≡ kind.Ack → m.sender < 4) (busy : (home_at w b).directory.phase ≡ Gathering → is_request (home_at w b).directory.request.kind ≡ true) where
+    (acks : m.kind ≡ kind.Ack → m.sender < 4) (busy : gathers (home_at w b) ≡ true → is_request (round_of (home_at w b).directory).request.kind ≡ true) where
   abbrev h : Home ℕ
   h = home_at w b
 
@@ -84,14 +83,14 @@ module _ {A B : Type 0} (w : World A B) (shape : Shape w) (b : ℕ) (low : b < 1
   here_by k at block_kind = and_from _ (eqb m.place b) (ap (λ j. goes_home j || comes_from_home j) at ∙ block_kind) (eq-eqb m.place b place)
 
   -- a home that has heard all finishes
-  finish : (k : Home ℕ) → k.directory.phase ≡ Gathering → is_request k.directory.request.kind ≡ true → is_empty k.directory.awaited ≡ true
+  finish : (k : Home ℕ) → gathers k ≡ true → is_request (round_of k.directory).request.kind ≡ true → is_empty (round_of k.directory).awaited ≡ true
       → filter (on b) (option_to_list (finished k b).entry) ≡ option_to_list (finished k b).entry → Moves b (z k) (y (finished k b))
   finish k gathering asked heard own =
       let r = finished k b in
-      let a = reply b k.directory.request r.next.words r.next.clock.global in
-      let one : filter (about b) (a ∷ []) ≡ a ∷ [] = kept_one (about b) a (and_from _ (eqb b b) (replies_come k.directory.request.kind) (eq-eqb b b refl)) in
+      let a = reply b (round_of k.directory).request r.next.words r.next.clock.global in
+      let one : filter (about b) (a ∷ []) ≡ a ∷ [] = kept_one (about b) a (and_from _ (eqb b b) (replies_come (round_of k.directory).request.kind) (eq-eqb b b refl)) in
       let post : Posted (z k).messages [] (a ∷ []) (y r).messages = subst (λ (ns : List (Message ℕ)). Posted (z k).messages [] ns (y r).messages) one (posted_call (about b) ms (a ∷ [])) in
-      let P : Home ℕ → Type 0 = λ g. Posted (z k).messages [] (reply b k.directory.request g.words g.clock.global ∷ []) (y r).messages in
+      let P : Home ℕ → Type 0 = λ g. Posted (z k).messages [] (reply b (round_of k.directory).request g.words g.clock.global ∷ []) (y r).messages in
       finishes (record {
         gathering = gathering;
         request = asked;
@@ -121,19 +120,11 @@ module _ {A B : Type 0} (w : World A B) (shape : Shape w) (b : ℕ) (low : b < 1
   ack_class : m.kind ≡ kind.Ack → token m ≡ cond m.exclusive marked_ack 12
   ack_class at = rw at refl
 
-  phase_awaiting : (d : Directory) (p : ℕ) → awaits d p ≡ true → d.phase ≡ Gathering
-  phase_awaiting d p waits = go d.phase refl waits
-    where
-      go : (f : Phase) → d.phase ≡ f → elim f [ Free ↦ false | Gathering ↦ has d.awaited p | Replied ↦ false ] ≡ true → d.phase ≡ Gathering
-      go Free at waits = never cc
-      go Gathering at waits = at
-      go Replied at waits = never cc
-
-  ack_moves : (r : Reaction (Home ℕ)) → m.kind ≡ kind.Ack → acknowledged h b m.sender m.exclusive m.words m.clock ≡ Some r → Passes b x (y r)
-  ack_moves r at heard = go (is_empty k.directory.awaited) refl same.1
+  ack_moves : (r : Reaction (Home ℕ)) → m.kind ≡ kind.Ack → acknowledged h b m ≡ Some r → Passes b x (y r)
+  ack_moves r at heard = go (is_empty (round_of k.directory).awaited) refl same.1
     where
       k : Home ℕ
-      k = heard_home h m.sender m.exclusive m.words m.clock
+      k = heard_home h m
 
       same : (awaits h.directory m.sender ≡ true) × (Some (after_hearing k b) ≡ Some r)
       same = allowed (awaits h.directory m.sender) (Some (after_hearing k b)) r heard
@@ -143,7 +134,7 @@ module _ {A B : Type 0} (w : World A B) (shape : Shape w) (b : ℕ) (low : b < 1
 
       hear : (v : Block) → ((q : ℕ) → v.line q ≡ x.line q) → ((q : ℕ) → v.out q ≡ x.out q) → ((q : ℕ) → v.clock q ≡ x.clock q) → v.home ≡ k
           → Posted x.messages (m ∷ []) [] v.messages → v.trail ≡ x.trail → Moves b x v
-      hear v lines outs clocks at_home post trail = hears m.sender m (record {
+      hear v lines outs clocks at_home post trail = hears m (record {
         small = acks at;
         awaited = same.0;
         class = ack_class at;
@@ -156,11 +147,10 @@ module _ {A B : Type 0} (w : World A B) (shape : Shape w) (b : ℕ) (low : b < 1
         trail = trail;
       })
 
-      go : (t : Bool) → is_empty k.directory.awaited ≡ t → Some (cond t (finished k b) (quiet k)) ≡ Some r → Passes b x (y r)
+      go : (t : Bool) → is_empty (round_of k.directory).awaited ≡ t → Some (cond t (finished k b) (quiet k)) ≡ Some r → Passes b x (y r)
       go true all done =
-          let gathering = phase_awaiting h.directory m.sender same.0 in
           moved (let e : finished k b ≡ r = cc in e)
-          (twice (z k) (hear (z k) (λ q. refl) (λ q. refl) (λ q. refl) refl (posted_taken k here) refl) (finish k gathering (busy gathering) all (own_entry k)))
+          (twice (z k) (hear (z k) (λ q. refl) (λ q. refl) (λ q. refl) refl (posted_taken k here) refl) (finish k refl (busy (gathers_so h m.sender same.0)) all (own_entry k)))
       go false some done =
           moved (let e : quiet k ≡ r = cc in e)
           (once (hear (y (quiet k)) (λ q. refl) (λ q. refl) (λ q. refl) (now (quiet k)) (posted (quiet k) [] here refl) (kept_added (on b) w.trail [] refl)))
@@ -205,7 +195,7 @@ module _ {A B : Type 0} (w : World A B) (shape : Shape w) (b : ℕ) (low : b < 1
           trail = kept_added (on b) w.trail [] refl;
         }))
 
-    ask : (t s : Processors) (v : Block) → plan m.kind (view h.directory) h.directory.holders m.sender ≡ Ask t → (s ≡ t) ⊎ ((s ≡ nobody) × (is_empty t ≡ true))
+    ask : (t s : Processors) (v : Block) → plan m.kind (view h.directory) h.directory.holders m.sender ≡ Some (Ask t) → (s ≡ t) ⊎ ((s ≡ nobody) × (is_empty t ≡ true))
         → ((q : ℕ) → v.line q ≡ x.line q) → ((q : ℕ) → v.out q ≡ x.out q) → ((q : ℕ) → v.clock q ≡ x.clock q) → v.home ≡ asking_home h (request_of m) s
         → Posted x.messages (m ∷ []) (sent (asks (asks_by m.kind) b s)) v.messages → v.trail ≡ x.trail → Moves b x v
     ask t s v planned which lines outs clocks at_home post trail =
@@ -225,7 +215,7 @@ module _ {A B : Type 0} (w : World A B) (shape : Shape w) (b : ℕ) (low : b < 1
           trail = trail;
         })
 
-    take : (t : Processors) → plan m.kind (view h.directory) h.directory.holders m.sender ≡ Ask t → Passes b x (y (asked h b (request_of m) t))
+    take : (t : Processors) → plan m.kind (view h.directory) h.directory.holders m.sender ≡ Some (Ask t) → Passes b x (y (asked h b (request_of m) t))
     take t planned = go (is_empty t) refl
       where
         k : Home ℕ
@@ -249,10 +239,10 @@ module _ {A B : Type 0} (w : World A B) (shape : Shape w) (b : ℕ) (low : b < 1
       here : is_request m.kind ≡ true → about b m ≡ true
       here request = and_from _ (eqb m.place b) (or_left (goes_home m.kind) _ (request_class m request).2) (eq-eqb m.place b place)
 
-      go : (f : Plan) → plan m.kind (view h.directory) h.directory.holders m.sender ≡ f → PlanGood m.kind h.directory.holders f → planned h b (request_of m) f ≡ Some r → Passes b x (y r)
-      go Nothing at good done = never cc
-      go Refuse at good done = moved (let e : refused h b (request_of m) ≡ r = cc in e) (refuse (here good) good)
-      go (Ask t) at good done = moved (let e : asked h b (request_of m) t ≡ r = cc in e) (take (here good.0) good.0 t at)
+      go : (f : Option Plan) → plan m.kind (view h.directory) h.directory.holders m.sender ≡ f → PlanGood m.kind h.directory.holders f → planned h b (request_of m) f ≡ Some r → Passes b x (y r)
+      go None at good done = never cc
+      go (Some Refuse) at good done = moved (let e : refused h b (request_of m) ≡ r = cc in e) (refuse (here good) good)
+      go (Some (Ask t)) at good done = moved (let e : asked h b (request_of m) t ≡ r = cc in e) (take (here good.0) good.0 t at)
 
   pub home_moves : (r : Reaction (Home ℕ)) → received h b m ≡ Some r → Passes b x (y r)
   home_moves r done = by_ack (same_kind m.kind kind.Ack) refl (allowed (ltb b 16) _ r done).1
@@ -262,7 +252,7 @@ module _ {A B : Type 0} (w : World A B) (shape : Shape w) (b : ℕ) (low : b < 1
       by_taken false at done = request_moves r done
 
       by_ack : (t : Bool) → same_kind m.kind kind.Ack ≡ t
-          → cond t (acknowledged h b m.sender m.exclusive m.words m.clock) (cond (same_kind m.kind kind.Taken) (taken h m.sender) (requested h b (request_of m))) ≡ Some r
+          → cond t (acknowledged h b m) (cond (same_kind m.kind kind.Taken) (taken h m.sender) (requested h b (request_of m))) ≡ Some r
           → Passes b x (y r)
       by_ack true at done = ack_moves r (numbers_tell_kinds m.kind kind.Ack at) done
       by_ack false at done = by_taken (same_kind m.kind kind.Taken) refl done

@@ -2,7 +2,6 @@
 use Rattle.std.proofs.Common.{◌≡◌, ℕ, ◌<◌, ◌≤◌, true, cond, eqb, ltb, ◌⊎◌, List, length, Some, sym, refl, ap, ◌∙◌, subst, inl, inr, arith}
 use Rattle.bridge.specs.declared.state.Bridge.{Bridge}
 use Rattle.device.specs.Meaning.{Meaning}
-use Rattle.home.specs.Laws.{is_free}
 use Rattle.home.specs.Reactions.{received}
 use Rattle.home.specs.declared.machine.Home.{Home}
 use Rattle.list.specs.Contents.{removed}
@@ -38,6 +37,7 @@ use Rattle.coherence.proofs.MovesCalls.{ByNumber, call_moves}
 use Rattle.coherence.proofs.MovesDeliveries.{delivery_moves}
 use Rattle.coherence.proofs.MovesHomes.{sends_elsewhere, enters_elsewhere}
 use Rattle.coherence.proofs.MovesOwnHome.{home_moves}
+use Rattle.coherence.proofs.Phases.{busy_gathering}
 use Rattle.coherence.proofs.Posts.{kept_added, kept_still}
 use Rattle.coherence.proofs.SlotsKept.{Tabled, refuses_requests}
 use Rattle.coherence.proofs.Stepping.{after}
@@ -166,4 +166,4 @@ module _ {A B : Type 0} (ma : Meaning A) (mb : Meaning B) where
         go (inl same) =
             subst (λ (n : ℕ). Now (removed w.messages way.at) (by_home w n r)) (sym same)
             (home_moves w fitted.shape b low way.at way.there m way.is (place ∙ same) (ack_sender (figures ma mb w) m way.well)
-            (λ gathering. ((fitted.homes b low).request (rw (gathering, is_free) refl)).asks) r (subst (λ (n : ℕ). received (home_at w n) n m ≡ Some r) same h))
+            (λ gathering. ((fitted.homes b low).request (busy_gathering (home_at w b) gathering)).asks) r (subst (λ (n : ℕ). received (home_at w n) n m ≡ Some r) same h))

@@ -2,6 +2,7 @@
 -- which words loads from devices tell.
 use Rattle.std.proofs.Common.{◌≡◌, ℕ, ◌+◌, ◌<◌, ◌≤◌, Bool, true, false, cond, ◌&&◌, ◌||◌, eqb, ltb, leb, List, get_or, Some, None}
 use Rattle.device.specs.Meaning.{Meaning}
+use Rattle.home.specs.Directories.{round_of}
 use Rattle.home.specs.declared.machine.Home.{Home}
 use Rattle.message.specs.Kinds.{same_kind}
 use Rattle.message.specs.Nodes.{device_node, is_device}
@@ -104,7 +105,7 @@ asks_about d b m =
     && cond (same_kind m.kind kind.Nack) (refuses_block m.refused && eqb m.receiver (device_node d)) (is_block_request m.kind && eqb m.sender (device_node d))
 
 abbrev pub gathers_for : ℕ → Home ℕ → Bool
-gathers_for d h = gathers h && (is_block_request h.directory.request.kind && eqb h.directory.request.requester (device_node d))
+gathers_for d h = gathers h && (is_block_request (round_of h.directory).request.kind && eqb (round_of h.directory).request.requester (device_node d))
 
 module _ {A B : Type 0} where
   -- A node's global number.
@@ -127,7 +128,7 @@ module _ {A B : Type 0} where
     pub messages : (m : Message ℕ) → Stands h.world.messages m → (n s : ℕ) → carries n s m ≡ true
         → Cleared h.issued h.world.trail (now h.world n) n s m.clock (carried_access m)
     pub homes : (b n s : ℕ) → b < 16 → serves n s (home_at h.world b) ≡ true
-        → Cleared h.issued h.world.trail (now h.world n) n s (home_at h.world b).directory.request.clock (served_access b (home_at h.world b))
+        → Cleared h.issued h.world.trail (now h.world n) n s (round_of (home_at h.world b).directory).request.clock (served_access b (home_at h.world b))
     pub channels : Pairs Follows h.world.messages
     pub slots : (p d : ℕ) → p < 4 → d < 2 → awaits (processor_at h.world p) d ≡ 0
         → (e : Entry) → Stands h.world.trail e → fetches p d e ≡ true → e.stamp.global < now h.world p

@@ -1,5 +1,5 @@
 -- Whom a free home asks for a request, as numbers: what its plan says of each processor q.
-use Rattle.std.proofs.Common.{◌≡◌, ℕ, ◌+◌, ◌≤◌, Bool, true, false, ◌&&◌, eqb, length, arith, length-set}
+use Rattle.std.proofs.Common.{◌≡◌, ℕ, ◌+◌, ◌≤◌, Bool, true, false, ◌&&◌, eqb, length, Some, arith, length-set}
 use Rattle.home.specs.Plans.{plan}
 use Rattle.home.specs.Requests.{asks_down}
 use Rattle.home.specs.Sets.{has}
@@ -28,8 +28,8 @@ pub record AskedOf (k : Kind) (h t : Processors) (x : Bool) (p q : ℕ) : Type 0
 abbrev pub Seen : View → Processors → Bool → ℕ → Type 0
 Seen v h x q = (v ≡ Idle → (has h q ≡ false) × (x ≡ false)) × (v ≡ Shared → x ≡ false) × (v ≡ Exclusive → x ≡ true)
 
-pub asked_of : (k : Kind) (v : View) (h t : Processors) (x : Bool) (p q : ℕ) → plan k v h p ≡ Ask t → Seen v h x q → AskedOf k h t x p q
+pub asked_of : (k : Kind) (v : View) (h t : Processors) (x : Bool) (p q : ℕ) → plan k v h p ≡ Some (Ask t) → Seen v h x q → AskedOf k h t x p q
 asked_of k v h t x p q is seen = grind (arith, nobody_has q, put_read h.at p q false false, indicator_most)
 
-pub asked_four : (k : Kind) (v : View) (h t : Processors) (p : ℕ) → plan k v h p ≡ Ask t → length h.at ≡ 4 → length t.at ≡ 4
+pub asked_four : (k : Kind) (v : View) (h t : Processors) (p : ℕ) → plan k v h p ≡ Some (Ask t) → length h.at ≡ 4 → length t.at ≡ 4
 asked_four k v h t p is four = grind (arith, length-set)

@@ -4,7 +4,7 @@ use Rattle.bridge.specs.Inputs as bridge
 use Rattle.device.specs.Meaning.{Meaning}
 use Rattle.home.proofs.Back.{one_more}
 use Rattle.home.proofs.Keeps.{by_rule}
-use Rattle.home.specs.Directories.{awaits}
+use Rattle.home.specs.Directories.{round_of, awaits}
 use Rattle.home.specs.Reactions.{ask_one, asks, awaits_taken, began, finished, heard_home, nack, received, reply}
 use Rattle.home.specs.Requests.{asks_by, request_of}
 use Rattle.home.specs.Sets.{has, is_empty}
@@ -75,17 +75,17 @@ module _ (p : Message ℕ → Bool) (b : ℕ) where
       one q = cond_both (has s q) (Some (plain (asks_by k) (home_node b) q b)) None (λ (o : Option (Message ℕ)). IfSome o Q) (λ _. unasked k q) (λ _. tt)
 
   reply_uncounted : NoReply → (k : Home ℕ) → count p (sent (finished k b).sent) ≡ 0
-  reply_uncounted unasked k = none_counted p (sent (finished k b).sent) (unasked k.directory.request _ _, tt)
+  reply_uncounted unasked k = none_counted p (sent (finished k b).sent) (unasked (round_of k.directory).request _ _, tt)
 
   -- then none of what it sends passes
   pub home_uncounted : NoQuestion → NoReply → (h : Home ℕ) (m : Message ℕ) → p (nack b (request_of m)) ≡ false
       → IfSome (received h b m) (λ r. count p (sent r.sent) ≡ 0)
   home_uncounted unasked none h m back =
       let P : Reaction (Home ℕ) → Type 0 = λ r. count p (sent r.sent) ≡ 0 in
-      let k = heard_home h m.sender m.exclusive m.words m.clock in
+      let k = heard_home h m in
       by_rule P h b m
       (λ _. cond_both (awaits h.directory m.sender) _ None (λ (o : Option (Reaction (Home ℕ))). IfSome o P)
-      (λ _. cond_both (is_empty k.directory.awaited) (finished k b) (quiet k) P (λ _. reply_uncounted none k) (λ _. count_none p))
+      (λ _. cond_both (is_empty (round_of k.directory).awaited) (finished k b) (quiet k) P (λ _. reply_uncounted none k) (λ _. count_none p))
       (λ _. tt))
       (cond_both (awaits_taken h.directory m.sender) _ None (λ (o : Option (Reaction (Home ℕ))). IfSome o P) (λ _. count_none p) (λ _. tt))
       (none_counted p (nack b (request_of m) ∷ []) (back, tt))

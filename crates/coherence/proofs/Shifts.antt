@@ -108,6 +108,5 @@ node_moves x y p t e asked gathered held timed = record {
   holders_four = rw e.home t.holders_four;
   awaited_four = rw e.home t.awaited_four;
   asks = rw e.home t.asks;
-  latest = rw e.home t.latest;
   clocks = rw e.home timed;
 }

@@ -1,6 +1,7 @@
 -- An Exclusive copy is the only one, and no data is on its way while it lasts; and a home that has heard all has nothing asked
 -- on its way, and no Exclusive copy is left.
 use Rattle.std.proofs.Common.{◌≡◌, ℕ, zero, suc, ◌+◌, ◌≤◌, true, false, length, sym, refl, ap, ◌∙◌, ⊎_elim, arith}
+use Rattle.home.specs.Directories.{round_of}
 use Rattle.home.specs.Sets.{has, is_empty}
 use Rattle.home.specs.declared.processors.Processors.{Processors}
 use Rattle.processor.specs.declared.line.Line.{Line}
@@ -96,11 +97,11 @@ module _ (x : Block) (t : Tokens x) where
         let sharing = (t.copies q).sharing in
         (omega arith, no_copy_comes q, no_words_back q)
 
-  none_awaited : is_empty x.home.directory.awaited ≡ true → (q : ℕ) → awaited x.home q ≡ 0
-  none_awaited heard q = ap indicator (empty_has x.home.directory.awaited t.awaited_four heard q)
+  none_awaited : is_empty (round_of x.home.directory).awaited ≡ true → (q : ℕ) → awaited x.home q ≡ 0
+  none_awaited heard q = ap indicator (empty_has (round_of x.home.directory).awaited t.awaited_four heard q)
 
   -- where nobody is awaited, no INV, DOWN or ACK waits
-  pub none_asked : is_empty x.home.directory.awaited ≡ true → (q : ℕ)
+  pub none_asked : is_empty (round_of x.home.directory).awaited ≡ true → (q : ℕ)
       → (pending x.messages 10 q ≡ 0) × (pending x.messages 11 q ≡ 0) × (pending x.messages 12 q ≡ 0) × (pending x.messages 41 q ≡ 0)
   none_asked heard q =
       let none = none_awaited heard q in
@@ -108,7 +109,7 @@ module _ (x : Block) (t : Tokens x) where
       omega arith
 
   -- and where the home gathers so, no copy is Exclusive
-  pub none_exclusive : is_empty x.home.directory.awaited ≡ true → gathering x.home ≡ 1 → exclusive x.home ≡ 0
+  pub none_exclusive : is_empty (round_of x.home.directory).awaited ≡ true → gathering x.home ≡ 1 → exclusive x.home ≡ 0
   none_exclusive heard busy =
       let asked = t.owner_asked in
       let zeroth = none_awaited heard 0 in
@@ -117,7 +118,7 @@ module _ (x : Block) (t : Tokens x) where
       let third = none_awaited heard 3 in
       omega arith
 
-  pub none_owned : is_empty x.home.directory.awaited ≡ true → gathering x.home ≡ 1 → (q : ℕ) → owned (x.line q) ≡ 0
+  pub none_owned : is_empty (round_of x.home.directory).awaited ≡ true → gathering x.home ≡ 1 → (q : ℕ) → owned (x.line q) ≡ 0
   none_owned heard busy q =
       let none = none_exclusive heard busy in
       let own = (t.copies q).owner in

@@ -1,7 +1,8 @@
 -- Tokens and agreement of one block: how requests out, questions asked and copies held stand to what is on its way, for each
 -- node q, as sums of tests. A request that is out is in exactly one place, and so is a question or a reply; and the copies
 -- are as the directory says, but for what is on its way.
-use Rattle.std.proofs.Common.{◌≡◌, ℕ, ◌+◌, ◌<◌, ◌≤◌, Bool, true, false, ◌&&◌, ◌||◌, eqb, leb, List, length, Some, None, Option}
+use Rattle.std.proofs.Common.{◌≡◌, ℕ, ◌+◌, ◌<◌, ◌≤◌, Bool, true, ◌&&◌, ◌||◌, eqb, leb, List, length, Some, None, Option}
+use Rattle.home.specs.Directories.{round_of}
 use Rattle.home.specs.Laws.{has_replied}
 use Rattle.home.specs.Requests.{asks_down}
 use Rattle.home.specs.Sets.{has}
@@ -42,22 +43,22 @@ abbrev pub gathering : Home ℕ → ℕ
 gathering h = indicator (gathers h)
 
 abbrev pub serving : Home ℕ → ℕ → ℕ → ℕ
-serving h k q = indicator (gathers h && (eqb (kind_number h.directory.request.kind) k && eqb h.directory.request.requester q))
+serving h k q = indicator (gathers h && (eqb (kind_number (round_of h.directory).request.kind) k && eqb (round_of h.directory).request.requester q))
 
 abbrev pub answering : Home ℕ → ℕ → ℕ
-answering h q = indicator (has_replied h && eqb h.directory.request.requester q)
+answering h q = indicator (has_replied h && eqb (round_of h.directory).request.requester q)
 
 abbrev pub holder : Home ℕ → ℕ → ℕ
 holder h q = indicator (has h.directory.holders q)
 
 abbrev pub awaited : Home ℕ → ℕ → ℕ
-awaited h q = indicator (has h.directory.awaited q)
+awaited h q = indicator (has (round_of h.directory).awaited q)
 
 abbrev pub exclusive : Home ℕ → ℕ
 exclusive h = indicator h.directory.exclusive
 
 abbrev pub lowers : Home ℕ → ℕ
-lowers h = indicator (asks_down h.directory.request.kind)
+lowers h = indicator (asks_down (round_of h.directory).request.kind)
 
 -- A request out of node q is a waiting request, a NACK or reply on its way back, or a home that gathers for it; a home that has
 -- replied to q has its reply or TAKEN on its way. Classes: requests 1 to 6, their NACKs 21 to 26, their replies 13 to 17
@@ -116,7 +117,6 @@ pub record Tokens (x : Block) : Type 0 where
   pub some : exclusive x.home ≤ holder x.home 0 + holder x.home 1 + holder x.home 2 + holder x.home 3
   pub owner_asked : gathering x.home + exclusive x.home ≤ 1 + awaited x.home 0 + awaited x.home 1 + awaited x.home 2 + awaited x.home 3
   pub holders_four : length x.home.directory.holders.at ≡ 4
-  pub awaited_four : length x.home.directory.awaited.at ≡ 4
-  pub asks : gathers x.home ≡ true → is_request x.home.directory.request.kind ≡ true
-  pub latest : gathers x.home ≡ false → x.home.directory.latest ≡ 0
+  pub awaited_four : length (round_of x.home.directory).awaited.at ≡ 4
+  pub asks : gathers x.home ≡ true → is_request (round_of x.home.directory).request.kind ≡ true
   pub clocks : All (λ m. is_reply (token m) ≡ true → m.clock ≡ x.home.clock.global) x.messages

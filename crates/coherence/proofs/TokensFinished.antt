@@ -1,9 +1,9 @@
 -- Tokens after a home that has heard all does what it was asked for and replies.
 use Rattle.std.proofs.Common.{◌≡◌, ℕ, ◌+◌, ◌<◌, ◌≤◌, Bool, true, false, cond, ◌&&◌, ◌||◌, eqb, List, [], ◌∷◌, length, Some, None, Option, refl, ap, ◌∙◌, ⊎_elim, arith, length-set}
+use Rattle.home.specs.Directories.{round_of}
 use Rattle.home.specs.Laws.{has_replied}
 use Rattle.home.specs.Reactions.{reply}
 use Rattle.home.specs.Sets.{has, with_member}
-use Rattle.home.specs.declared.directory.Phase.TheVariants.{Gathering}
 use Rattle.home.specs.declared.machine.Home.{Home}
 use Rattle.home.specs.declared.processors.Processors.{Processors}
 use Rattle.home.specs.declared.request.Request.{Request}
@@ -19,6 +19,7 @@ use Rattle.coherence.proofs.Carrying.{gathers}
 use Rattle.coherence.proofs.Counting.{indicator, indicator_most}
 use Rattle.coherence.proofs.Moves.{Finishes}
 use Rattle.coherence.proofs.FormsKept.{nobody_has}
+use Rattle.coherence.proofs.Phases.{unreplied}
 use Rattle.coherence.proofs.Shifts.{TimedReply, came, each}
 use Rattle.coherence.proofs.Sole.{copies_add, empty_has, none_exclusive}
 use Rattle.coherence.proofs.Tokens.{Tokens, AskedFor, Gathered, Held, answering, awaited, exclusive, gathering, holder, lowers, out_is, serving}
@@ -71,9 +72,6 @@ one_of_four p small = grind arith
 
 not_both : (p r q : ℕ) → (r ≡ q → ⊥) → indicator (eqb p r) + indicator (eqb p q) ≤ 1
 not_both p r q apart = grind arith
-
-busy : (h : Home ℕ) → h.directory.phase ≡ Gathering → (gathers h ≡ true) × (has_replied h ≡ false)
-busy h is = grind arith
 
 -- No node but a processor or a device has a request out.
 abbrev pub Near : Block → Type 0
@@ -183,7 +181,7 @@ module _ (h h' : Home ℕ) (p q r : ℕ) where
 
 module _ (b : ℕ) (x y : Block) (t : Tokens x) (near : Near x) (g : Finishes b x y) where
   abbrev request : Request
-  request = x.home.directory.request
+  request = (round_of x.home.directory).request
 
   abbrev p : ℕ
   p = request.requester
@@ -192,7 +190,7 @@ module _ (b : ℕ) (x y : Block) (t : Tokens x) (near : Near x) (g : Finishes b 
   n = kind_number request.kind
 
   phase : (gathers x.home ≡ true) × (has_replied x.home ≡ false)
-  phase = busy x.home g.gathering
+  phase = (g.gathering, unreplied x.home g.gathering)
 
   serving_then : (q k : ℕ) → serving x.home k q ≡ indicator (eqb n k && eqb p q)
   serving_then q k = serving_as x.home true phase.0 q k
@@ -218,7 +216,7 @@ module _ (b : ℕ) (x y : Block) (t : Tokens x) (near : Near x) (g : Finishes b 
   told = reply_token b request y.home.words y.home.clock.global g.request (λ is. small (omega arith)) device
 
   none_awaited : (q : ℕ) → awaited x.home q ≡ 0
-  none_awaited q = ap indicator (empty_has x.home.directory.awaited t.awaited_four g.heard q)
+  none_awaited q = ap indicator (empty_has (round_of x.home.directory).awaited t.awaited_four g.heard q)
 
   none_owned : exclusive x.home ≡ 0
   none_owned = none_exclusive x t g.heard gathering_then
@@ -283,7 +281,6 @@ module _ (b : ℕ) (x y : Block) (t : Tokens x) (near : Near x) (g : Finishes b 
     holders_four = rw g.home (given_four (copying n) x.home.directory.holders p t.holders_four);
     awaited_four = rw g.home refl;
     asks = rw g.home (λ is. absurd (false≢true is));
-    latest = rw g.home (λ _. refl);
     clocks = posted_all (TimedReply y.home) x.messages [] (back ∷ []) y.messages g.messages
         (no_reply y.home x.messages (λ c q. by_reply (λ c. pending x.messages c q) (none_replied q) c))
         ((λ _. refl), tt);

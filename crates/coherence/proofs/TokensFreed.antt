@@ -1,5 +1,6 @@
 -- Tokens after a home gets TAKEN, when no reply is on its way any more.
 use Rattle.std.proofs.Common.{◌≡◌, ℕ, ◌+◌, ◌≤◌, Bool, true, false, ◌&&◌, eqb, List, sym, refl, ap, ◌∙◌, ⊎_elim, arith}
+use Rattle.home.specs.Directories.{round_of}
 use Rattle.home.specs.Laws.{has_replied}
 use Rattle.home.specs.Reactions.{awaits_taken}
 use Rattle.home.specs.declared.machine.Home.{Home}
@@ -12,6 +13,7 @@ use Rattle.coherence.proofs.Blocks.{Block, all_from_has, hits, pending_is, peer,
 use Rattle.coherence.proofs.Carrying.{gathers}
 use Rattle.coherence.proofs.Counting as tallied
 use Rattle.coherence.proofs.Counting.{indicator, indicator_most, none_passes}
+use Rattle.coherence.proofs.FormsKept.{nobody_has}
 use Rattle.coherence.proofs.Moves.{Frees}
 use Rattle.coherence.proofs.Shifts.{TimedReply, went}
 use Rattle.coherence.proofs.Tokens.{Tokens, AskedFor, Gathered, Held, answering, awaited, exclusive, gathering, holder, is_reply, lowers, serving}
@@ -43,20 +45,23 @@ by_reply f none c is = ⊎_elim (λ both. small (leb-true 13 c (and_parts _ _ bo
         (λ e. at 17 (omega arith) (omega arith)) (cases_eq c 16)) (cases_eq c 15)) (cases_eq c 14)) (cases_eq c 13)
 
 -- a home that awaits TAKEN of n has replied to n
-replying : (h : Home ℕ) (n : ℕ) → awaits_taken h.directory n ≡ true → (has_replied h ≡ true) × (gathers h ≡ false) × (eqb h.directory.request.requester n ≡ true)
+replying : (h : Home ℕ) (n : ℕ) → awaits_taken h.directory n ≡ true → (has_replied h ≡ true) × (gathers h ≡ false) × (eqb (round_of h.directory).request.requester n ≡ true)
 replying h n is = grind arith
 
 -- what a home serves, by whether it gathers, and whom it answers
 pub serving_as : (h : Home ℕ) (g : Bool) → gathers h ≡ g → (q k : ℕ)
-    → serving h k q ≡ indicator (g && (eqb (kind_number h.directory.request.kind) k && eqb h.directory.request.requester q))
-serving_as h g is q k = ap (λ t. indicator (t && (eqb (kind_number h.directory.request.kind) k && eqb h.directory.request.requester q))) is
+    → serving h k q ≡ indicator (g && (eqb (kind_number (round_of h.directory).request.kind) k && eqb (round_of h.directory).request.requester q))
+serving_as h g is q k = ap (λ t. indicator (t && (eqb (kind_number (round_of h.directory).request.kind) k && eqb (round_of h.directory).request.requester q))) is
 
-pub answering_as : (h : Home ℕ) (g : Bool) → has_replied h ≡ g → (q : ℕ) → answering h q ≡ indicator (g && eqb h.directory.request.requester q)
-answering_as h g is q = ap (λ t. indicator (t && eqb h.directory.request.requester q)) is
+pub answering_as : (h : Home ℕ) (g : Bool) → has_replied h ≡ g → (q : ℕ) → answering h q ≡ indicator (g && eqb (round_of h.directory).request.requester q)
+answering_as h g is q = ap (λ t. indicator (t && eqb (round_of h.directory).request.requester q)) is
 
 module _ (b : ℕ) (x y : Block) (t : Tokens x) (n : ℕ) (m : Message ℕ) (g : Frees b x y n m) where
-  served : (has_replied x.home ≡ true) × (gathers x.home ≡ false) × (eqb x.home.directory.request.requester n ≡ true)
+  served : (has_replied x.home ≡ true) × (gathers x.home ≡ false) × (eqb (round_of x.home.directory).request.requester n ≡ true)
   served = replying x.home n g.awaited
+
+  idle_then : gathering x.home ≡ 0
+  idle_then = ap indicator served.1
 
   module _ (q : ℕ) where
     serving_then : (k : ℕ) → serving x.home k q ≡ 0
@@ -83,18 +88,19 @@ module _ (b : ℕ) (x y : Block) (t : Tokens x) (n : ℕ) (m : Message ℕ) (g :
         let o = t.gathered q in
         let gathering_now : gathering y.home ≡ gathering x.home = ap gathering g.home ∙ sym (ap indicator served.1) in
         let holder_now : holder y.home q ≡ holder x.home q = ap (λ h. holder h q) g.home in
-        let awaited_now : awaited y.home q ≡ awaited x.home q = ap (λ h. awaited h q) g.home in
+        let awaited_now : awaited y.home q ≡ 0 = ap (λ h. awaited h q) g.home ∙ ap indicator (nobody_has q) in
         let exclusive_now : exclusive y.home ≡ exclusive x.home = ap exclusive g.home in
-        let lowers_now : lowers y.home ≡ lowers x.home = ap lowers g.home in
-        omega (arith, count, serving_then, serving_now)
+        let lowers_now : lowers y.home ≡ 1 = ap lowers g.home in
+        omega (arith, count, serving_then, serving_now, idle_then)
 
     held_freed : Held (y.line q) (y.out q) y.home y.messages q
     held_freed =
         let o = t.copies q in
+        let a = t.gathered q in
         let holder_now : holder y.home q ≡ holder x.home q = ap (λ h. holder h q) g.home in
         let exclusive_now : exclusive y.home ≡ exclusive x.home = ap exclusive g.home in
-        let lowers_now : lowers y.home ≡ lowers x.home = ap lowers g.home in
-        rw (g.lines q, g.outs q) (omega (arith, count))
+        let lowers_now : lowers y.home ≡ 1 = ap lowers g.home in
+        rw (g.lines q, g.outs q) (omega (arith, count, idle_then))
 
   pub freed : Tokens y
   freed = record {
@@ -105,9 +111,8 @@ module _ (b : ℕ) (x y : Block) (t : Tokens x) (n : ℕ) (m : Message ℕ) (g :
     some = rw g.home t.some;
     owner_asked = rw g.home (omega (arith, indicator_most x.home.directory.exclusive));
     holders_four = rw g.home t.holders_four;
-    awaited_four = rw g.home t.awaited_four;
+    awaited_four = rw g.home refl;
     asks = rw g.home (λ is. absurd (false≢true is));
-    latest = rw g.home (λ _. t.latest served.1);
     clocks = no_reply y.home y.messages (λ c q. by_reply (λ c. pending y.messages c q) (none q) c);
   }
     where

@@ -21,6 +21,7 @@ use Rattle.coherence.proofs.Carrying.{gathers}
 use Rattle.coherence.proofs.Counting.{indicator, indicator_most, count, count_none, count_cons}
 use Rattle.coherence.proofs.Moves.{AsksHolders}
 use Rattle.coherence.proofs.FormsKept.{nobody_has}
+use Rattle.coherence.proofs.Phases.{idle}
 use Rattle.coherence.proofs.Plans.{AskedOf, Seen, asked_of, asked_four}
 use Rattle.coherence.proofs.Shifts.{TimedReply}
 use Rattle.coherence.proofs.Sole.{empty_has}
@@ -53,9 +54,6 @@ by_question : (d e : Bool) → (indicator (eqb (cond d 11 10) 10 && e) + indicat
     × (indicator (eqb (cond d 11 10) 10 && e) + indicator d ≤ 1) × (indicator (eqb (cond d 11 10) 11 && e) ≤ indicator d)
 by_question true e = omega (arith, indicator_most)
 by_question false e = omega (arith, indicator_most)
-
-idle : (h : Home ℕ) → h.directory.phase ≡ Free → (gathers h ≡ false) × (has_replied h ≡ false)
-idle h free = grind arith
 
 -- a request's number is none past 6
 past : (k : Kind) → is_request k ≡ true → (c : ℕ) (e : Bool) → 6 < c → indicator (eqb (kind_number k) c && e) ≡ 0
@@ -195,7 +193,6 @@ module _ (b : ℕ) (x y : Block) (t : Tokens x) (m : Message ℕ) (planned asked
         holders_four = rw g.home t.holders_four;
         awaited_four = rw g.home asked_is_four;
         asks = rw g.home (λ _. g.request);
-        latest = rw g.home (λ _. refl);
         clocks = rw g.home (posted_all (TimedReply x.home) x.messages (m ∷ []) (sent (asks (asks_by m.kind) b asked)) y.messages g.messages t.clocks
             (asked_silent x.home down b asked));
       }

@@ -1,6 +1,6 @@
 -- Tokens after a home hears an acknowledgement.
 use Rattle.std.proofs.Common.{◌≡◌, ℕ, ◌+◌, ◌<◌, ◌≤◌, Bool, true, false, cond, eqb, [], ◌∷◌, length, sym, refl, ap, ◌∙◌, arith, length-set}
-use Rattle.home.specs.Directories.{awaits}
+use Rattle.home.specs.Directories.{round_of, awaits}
 use Rattle.home.specs.Laws.{has_replied}
 use Rattle.home.specs.Requests.{asks_down}
 use Rattle.home.specs.Sets.{has, with_member}
@@ -8,7 +8,7 @@ use Rattle.home.specs.declared.machine.Home.{Home}
 use Rattle.home.specs.declared.processors.Processors.{Processors}
 use Rattle.message.specs.declared.message.Message.{Message}
 use Rattle.std.proofs.lemmas.List.{get_or-set_same, get_or-set_other}
-use Rattle.std.proofs.lemmas.Bool.{eqb-false, true≢false}
+use Rattle.std.proofs.lemmas.Bool.{eqb-false}
 use Rattle.coherence.proofs.Blocks.{Block, pending, posted_all}
 use Rattle.coherence.proofs.Carrying.{gathers}
 use Rattle.coherence.proofs.Counting.{indicator, indicator_most}
@@ -16,6 +16,7 @@ use Rattle.coherence.proofs.Moves.{Hears}
 use Rattle.coherence.proofs.Shifts.{TimedReply, apart, each, went_here, went_there}
 use Rattle.coherence.proofs.Sole.{copies_add, held_most}
 use Rattle.coherence.proofs.Tokens.{Tokens, AskedFor, Gathered, Held, answering, awaited, exclusive, gathering, holder, lowers, serving}
+use Rattle.coherence.proofs.TokensFreed.{answering_as, serving_as}
 
 -- a set after one member comes or goes
 pub member_here : (s : Processors) (p : ℕ) (v : Bool) → p < 4 → length s.at ≡ 4 → has (with_member s p v) p ≡ v
@@ -24,7 +25,7 @@ member_here s p v small four = get_or-set_same s.at p v false (omega arith)
 pub member_there : (s : Processors) (p : ℕ) (v : Bool) (q : ℕ) → eqb p q ≡ false → has (with_member s p v) q ≡ has s q
 member_there s p v q apart = get_or-set_other s.at p q v false (λ same. eqb-false p q apart (sym same))
 
-hearing : (h : Home ℕ) (p : ℕ) → awaits h.directory p ≡ true → (has_replied h ≡ false) × (gathers h ≡ true) × (has h.directory.awaited p ≡ true)
+hearing : (h : Home ℕ) (p : ℕ) → awaits h.directory p ≡ true → (has_replied h ≡ false) × (gathers h ≡ true) × (has (round_of h.directory).awaited p ≡ true)
 hearing h p is = grind arith
 
 -- the holders once p is heard: all but p, or after DOWN the same
@@ -44,8 +45,11 @@ kept_four : (d : Bool) (s : Processors) (p : ℕ) → length s.at ≡ 4 → leng
 kept_four true s p four = four
 kept_four false s p four = length-set s.at p false ∙ four
 
-module _ (b : ℕ) (x y : Block) (t : Tokens x) (p : ℕ) (m : Message ℕ) (g : Hears b x y p m) where
-  heard : (has_replied x.home ≡ false) × (gathers x.home ≡ true) × (has x.home.directory.awaited p ≡ true)
+module _ (b : ℕ) (x y : Block) (t : Tokens x) (m : Message ℕ) (g : Hears b x y m) where
+  abbrev p : ℕ
+  p = m.sender
+
+  heard : (has_replied x.home ≡ false) × (gathers x.home ≡ true) × (has (round_of x.home.directory).awaited p ≡ true)
   heard = hearing x.home p g.awaited
 
   there : (q : ℕ) → eqb p q ≡ false → (c : ℕ) → pending y.messages c q ≡ pending x.messages c q
@@ -70,7 +74,7 @@ module _ (b : ℕ) (x y : Block) (t : Tokens x) (p : ℕ) (m : Message ℕ) (g :
   awaited_then = ap indicator heard.2
 
   gathering_now : gathering y.home ≡ gathering x.home
-  gathering_now = ap gathering g.home
+  gathering_now = ap gathering g.home ∙ sym gathering_then
 
   exclusive_now : exclusive y.home ≡ 0
   exclusive_now = ap exclusive g.home
@@ -79,24 +83,24 @@ module _ (b : ℕ) (x y : Block) (t : Tokens x) (p : ℕ) (m : Message ℕ) (g :
   lowers_now = ap lowers g.home
 
   serving_now : (q k : ℕ) → serving y.home k q ≡ serving x.home k q
-  serving_now q k = ap (λ h. serving h k q) g.home
+  serving_now q k = ap (λ h. serving h k q) g.home ∙ sym (serving_as x.home true heard.1 q k)
 
   answering_now : (q : ℕ) → answering y.home q ≡ answering x.home q
-  answering_now q = ap (λ h. answering h q) g.home
+  answering_now q = ap (λ h. answering h q) g.home ∙ sym (answering_as x.home false heard.0 q)
 
   holder_there : (q : ℕ) → eqb p q ≡ false → holder y.home q ≡ holder x.home q
-  holder_there q apart = ap (λ h. holder h q) g.home ∙ ap indicator (kept_there (asks_down x.home.directory.request.kind) x.home.directory.holders p q apart)
+  holder_there q apart = ap (λ h. holder h q) g.home ∙ ap indicator (kept_there (asks_down (round_of x.home.directory).request.kind) x.home.directory.holders p q apart)
 
   awaited_there : (q : ℕ) → eqb p q ≡ false → awaited y.home q ≡ awaited x.home q
-  awaited_there q apart = ap (λ h. awaited h q) g.home ∙ ap indicator (member_there x.home.directory.awaited p false q apart)
+  awaited_there q apart = ap (λ h. awaited h q) g.home ∙ ap indicator (member_there (round_of x.home.directory).awaited p false q apart)
 
   awaited_here : awaited y.home p ≡ 0
-  awaited_here = ap (λ h. awaited h p) g.home ∙ ap indicator (member_here x.home.directory.awaited p false g.small t.awaited_four)
+  awaited_here = ap (λ h. awaited h p) g.home ∙ ap indicator (member_here (round_of x.home.directory).awaited p false g.small t.awaited_four)
 
   holder_here : (holder y.home p ≤ lowers x.home) × (holder y.home p ≤ holder x.home p) × (holder x.home p + lowers x.home ≤ 1 + holder y.home p)
   holder_here =
       let now = ap (λ h. holder h p) g.home in
-      let facts = kept_here (asks_down x.home.directory.request.kind) x.home.directory.holders p g.small t.holders_four in
+      let facts = kept_here (asks_down (round_of x.home.directory).request.kind) x.home.directory.holders p g.small t.holders_four in
       omega arith
 
   asked_heard : (q : ℕ) → AskedFor (y.out q) y.home y.messages q
@@ -176,9 +180,8 @@ module _ (b : ℕ) (x y : Block) (t : Tokens x) (p : ℕ) (m : Message ℕ) (g :
         one = λ r q _. omega (arith, indicator_most);
         some = omega arith;
         owner_asked = omega arith;
-        holders_four = rw g.home (kept_four (asks_down x.home.directory.request.kind) x.home.directory.holders p t.holders_four);
-        awaited_four = rw g.home (length-set x.home.directory.awaited.at p false ∙ t.awaited_four);
-        asks = rw g.home t.asks;
-        latest = rw g.home (λ idle. absurd (true≢false (sym heard.1 ∙ idle)));
+        holders_four = rw g.home (kept_four (asks_down (round_of x.home.directory).request.kind) x.home.directory.holders p t.holders_four);
+        awaited_four = rw g.home (length-set (round_of x.home.directory).awaited.at p false ∙ t.awaited_four);
+        asks = rw g.home (λ _. t.asks heard.1);
         clocks = rw g.home (posted_all (TimedReply x.home) x.messages (m ∷ []) [] y.messages g.messages t.clocks tt);
       }

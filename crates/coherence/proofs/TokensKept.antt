@@ -52,7 +52,6 @@ undisturbed x y t lines outs home messages = record {
   holders_four = rw home t.holders_four;
   awaited_four = rw home t.awaited_four;
   asks = rw home t.asks;
-  latest = rw home t.latest;
   clocks = rw (home, messages) t.clocks;
 }
 
@@ -95,7 +94,7 @@ module _ (b : ℕ) (x y : Block) (t : Tokens x) where
   tokens_moved near (again n k m a is g) = sent_again b x y t n k m a is g
   tokens_moved near (refuses n k m a is g) = sent_back b x y t n k m a is g
   tokens_moved near (asks_holders m planned asked g) = gathering_tokens b x y t m planned asked g
-  tokens_moved near (hears p m g) = heard_tokens b x y t p m g
+  tokens_moved near (hears m g) = heard_tokens b x y t m g
   tokens_moved near (finishes g) = when_finished near g
   tokens_moved near (frees n m g) = freed b x y t n m g
 
@@ -115,7 +114,6 @@ quiet x lines outs new none = record {
   holders_four = rw new refl;
   awaited_four = rw new refl;
   asks = rw new (λ is. absurd (false≢true is));
-  latest = rw new (λ _. refl);
   clocks = rw none tt;
 }
   where

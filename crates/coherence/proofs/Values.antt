@@ -1,6 +1,7 @@
 -- Values of one block: every copy, every waiting message with data, and the home's words, unless some copy is Exclusive or its
 -- words are on their way back, are what the trail says stands in the block now.
 use Rattle.std.proofs.Common.{◌≡◌, ℕ, ◌+◌, ◌*◌, ◌<◌, Bool, true, false, ◌||◌, eqb, List, length, get_or, Some, sym, ap, ◌∙◌, subst, arith}
+use Rattle.home.specs.Directories.{round_of}
 use Rattle.home.specs.declared.machine.Home.{Home}
 use Rattle.message.specs.declared.message.Message.{Message}
 use Rattle.ordering.specs.declared.operation.Words.{Words}
@@ -46,7 +47,7 @@ pub record Valued (stands : ℕ → ℕ) (line : ℕ → Line) (h : Home ℕ) (m
   pub home : NoneOwned line ms → (i : ℕ) → i < 4 → get_or h.words.at i 0 ≡ stands i
   pub carried : All (Data stands) ms
   pub four : All Four ms
-  pub request_four : length h.directory.request.words.at ≡ 4
+  pub request_four : length (round_of h.directory).request.words.at ≡ 4
 
 abbrev pub Values : ℕ → (Address → ℕ) → Block → Type 0
 Values b start x = Valued (now b start x.trail) x.line x.home x.messages
@@ -93,7 +94,7 @@ bare_unmarked m none = (or_parts (eqb (token m) 14) (eqb (token m) 41) (or_parts
 
 -- Where no copy changes and messages without data go and come, the values stay.
 pub valued_on : (stands : ℕ → ℕ) (x y : Block) (gone come : List (Message ℕ)) → Valued stands x.line x.home x.messages
-    → ((q : ℕ) → y.line q ≡ x.line q) → y.home.words ≡ x.home.words → length y.home.directory.request.words.at ≡ 4
+    → ((q : ℕ) → y.line q ≡ x.line q) → y.home.words ≡ x.home.words → length (round_of y.home.directory).request.words.at ≡ 4
     → Posted x.messages gone come y.messages → All Bare gone → All Bare come → All Four come
     → Valued stands y.line y.home y.messages
 valued_on stands x y gone come v lines words request post out new four = record {

@@ -1,6 +1,7 @@
 -- Moves that change a copy: a processor gives way, or takes a copy; and the home hears an acknowledgement. What each has
 -- stays what stands in the block.
 use Rattle.std.proofs.Common.{◌≡◌, ℕ, ◌+◌, ◌<◌, ◌≤◌, Bool, true, false, cond, eqb, ◌⊎◌, List, [], ◌∷◌, length, get_or, Some, sym, refl, ap, ◌∙◌, subst, inl, inr, arith}
+use Rattle.home.specs.Directories.{round_of}
 use Rattle.home.specs.declared.machine.Home.{Home}
 use Rattle.message.specs.declared.kind.Kind.{Kind}
 use Rattle.message.specs.declared.message.Message.{Message}
@@ -34,7 +35,7 @@ module _ (b : ℕ) (start : Address → ℕ) (x y : Block) (v : Values b start x
         home = λ none i low. ap (λ (h : Home ℕ). get_or h.words.at i 0) home ∙ v.home (before none) i low;
         carried = posted_all (Data stands) x.messages gone come y.messages post v.carried bring;
         four = posted_all Four x.messages gone come y.messages post v.four four;
-        request_four = ap (λ (h : Home ℕ). length h.directory.request.words.at) home ∙ v.request_four;
+        request_four = ap (λ (h : Home ℕ). length (round_of h.directory).request.words.at) home ∙ v.request_four;
       })
     where
       copy : (q : ℕ) (ws : Words) → (eqb p q ≡ true) ⊎ (eqb p q ≡ false) → held_words (y.line q) ≡ Some ws → Says stands ws
@@ -104,15 +105,15 @@ module _ (b : ℕ) (start : Address → ℕ) (x y : Block) (v : Values b start x
   brought p k old new c m r bring = (posted_gone (Data stands) x.messages (m ∷ []) _ y.messages r.messages v.carried).0 (ap carries r.class ∙ bring)
 
   -- The home hears an acknowledgement: words under the mark are those that stand there, and without it nothing is new.
-  pub hears_values : (p : ℕ) (m : Message ℕ) → Hears b x y p m → Values b start y
-  hears_values p m r =
+  pub hears_values : (m : Message ℕ) → Hears b x y m → Values b start y
+  hears_values m r =
       values_along b start x y r.trail (record {
         copies = λ q ws is. v.copies q ws (sym (ap held_words (r.lines q)) ∙ is);
         home_four = ap (λ (h : Home ℕ). length h.words.at) r.home ∙ four m.exclusive;
         home = λ none i low. ap (λ (h : Home ℕ). get_or h.words.at i 0) r.home ∙ words m.exclusive refl none i low;
         carried = posted_all (Data stands) x.messages (m ∷ []) [] y.messages r.messages v.carried tt;
         four = posted_all Four x.messages (m ∷ []) [] y.messages r.messages v.four tt;
-        request_four = ap (λ (h : Home ℕ). length h.directory.request.words.at) r.home ∙ v.request_four;
+        request_four = ap (λ (h : Home ℕ). length (round_of h.directory).request.words.at) r.home ∙ v.request_four;
       })
     where
       four : (mark : Bool) → length (cond mark m.words x.home.words).at ≡ 4

@@ -1,6 +1,7 @@
 -- A home that finishes: what it reads for a device, and what it replies, stands in the block; and what it writes stands there
 -- from now on, when nobody has a copy.
 use Rattle.std.proofs.Common.{◌≡◌, ℕ, ◌+◌, ◌*◌, ◌/◌, ◌<◌, true, false, ◌⊎◌, List, [], ◌∷◌, ◌++◌, length, get_or, Some, None, Option, sym, refl, ap, ◌∙◌, subst, inl, inr, arith}
+use Rattle.home.specs.Directories.{round_of}
 use Rattle.home.specs.Reactions.{clock_after, entry_for, reply, words_after}
 use Rattle.home.specs.Requests.{carries_words, operation_for}
 use Rattle.home.specs.declared.machine.Home.{Home}
@@ -88,16 +89,16 @@ ldblk_reads b start trail r w c says reads n has = says n (ltb-true n 4 has)
 
 module _ (b : ℕ) (start : Address → ℕ) (x y : Block) (t : Tokens x) (v : Values b start x) (g : Finishes b x y) where
   abbrev request : Request
-  request = x.home.directory.request
+  request = (round_of x.home.directory).request
 
   abbrev words : Words
   words = words_after x.home.words request
 
   abbrev clock : Clock ℕ
-  clock = clock_after x.home.clock x.home.directory
+  clock = clock_after x.home.clock (round_of x.home.directory)
 
   busy : gathering x.home ≡ 1
-  busy = rw (g.gathering, gathers) refl
+  busy = ap indicator g.gathering
 
   -- what the home has may be relied on
   home_says : Says (now b start x.trail) x.home.words
@@ -125,7 +126,7 @@ module _ (b : ℕ) (start : Address → ℕ) (x y : Block) (t : Tokens x) (v : V
     no_copy q =
         let all = (t.gathered q).all_asked in
         let copy = (t.copies q).copy in
-        let heard : awaited x.home q ≡ 0 = ap indicator (empty_has x.home.directory.awaited t.awaited_four g.heard q) in
+        let heard : awaited x.home q ≡ 0 = ap indicator (empty_has (round_of x.home.directory).awaited t.awaited_four g.heard q) in
         let takes : lowers x.home ≡ 0 = rw writes refl in
         let no_upgrade : serving x.home 3 q ≡ 0 = rw (writes, g.gathering, gathers) refl in
         omega (arith, busy)
@@ -179,7 +180,7 @@ module _ (b : ℕ) (start : Address → ℕ) (x y : Block) (t : Tokens x) (v : V
             ((λ is. subst (Says (now b start y.trail)) (sym (cond-true (carries_words request.kind) y.home.words no_words (reply_words b request y.home.words c is))) said), tt);
         four = posted_all Four x.messages [] _ y.messages g.messages v.four
             (cond_both (carries_words request.kind) y.home.words no_words (λ (ws : Words). length ws.at ≡ 4) (λ _. said.four) (λ _. refl), tt);
-        request_four = ap (λ (h : Home ℕ). length h.directory.request.words.at) g.home ∙ v.request_four;
+        request_four = ap (λ (h : Home ℕ). length (round_of h.directory).request.words.at) g.home ∙ v.request_four;
       }
 
   -- the entry that was added

@@ -2,6 +2,7 @@
 -- what stands in the block.
 use Rattle.std.proofs.Common.{◌≡◌, ℕ, zero, suc, ◌+◌, ◌*◌, ◌<◌, [], ◌∷◌, ◌++◌, length, get_or, sym, refl, ap, ◌∙◌, subst, inl, arith}
 use Rattle.device.specs.Meaning.{Meaning}
+use Rattle.home.specs.Directories.{round_of}
 use Rattle.home.specs.Homes.{new_home}
 use Rattle.home.specs.declared.machine.Home.{Home}
 use Rattle.message.specs.Kinds.{kind_number}
@@ -66,7 +67,7 @@ module _ (b : ℕ) (start : Address → ℕ) (x y : Block) (t : Tokens x) (v : V
   values_moved (again n k m a is g) = returns_values b start x y v n (refusal_of k) (kind_number k) m a (refusal_bare k is) (request_bare k is) g
   values_moved (refuses n k m a is g) = returns_values b start x y v n (kind_number k) (refusal_of k) m a (request_bare k is) (refusal_bare k is) g
   values_moved (asks_holders m planned asked g) = asks_values b start x y v m planned asked g
-  values_moved (hears p m g) = hears_values b start x y v p m g
+  values_moved (hears m g) = hears_values b start x y v m g
   values_moved (finishes g) = finishes_values b start x y t v g
   values_moved (frees n m g) = frees_values b start x y v n m g
 
@@ -95,7 +96,7 @@ module _ (b : ℕ) (start : Address → ℕ) (x y : Block) (t : Tokens x) (v : V
       go (again n k m a is g) = quiet g.trail
       go (refuses n k m a is g) = quiet g.trail
       go (asks_holders m planned asked g) = quiet g.trail
-      go (hears p m g) = quiet g.trail
+      go (hears m g) = quiet g.trail
       go (finishes g) = finishes_reads b start x y t v g e added
       go (frees n m g) = quiet g.trail
 
@@ -115,7 +116,7 @@ module _ {A B : Type 0} (ma : Meaning A) (mb : Meaning B) (k : Making A B) where
     home = λ _ i low. ap (λ (h : Home ℕ). get_or h.words.at i 0) new ∙ at_start b i low;
     carried = tt;
     four = tt;
-    request_four = ap (λ (h : Home ℕ). length h.directory.request.words.at) new;
+    request_four = ap (λ (h : Home ℕ). length (round_of h.directory).request.words.at) new;
   }
     where
       new : (block b (make ma mb k)).home ≡ new_home k.clock (block_words k.words b)

@@ -1,6 +1,7 @@
 -- Operations of a processor on a block: a load reads what stands in the block, and after a store the owner's copy is what
 -- stands there.
 use Rattle.std.proofs.Common.{◌≡◌, ℕ, ◌+◌, ◌*◌, ◌/◌, ◌%◌, ◌<◌, Bool, true, false, cond, ◌&&◌, ◌||◌, eqb, ltb, ◌⊎◌, List, [], ◌∷◌, ◌++◌, length, get_or, set, Some, sym, refl, ap, ◌∙◌, subst, inl, inr, ⊎_elim, arith}
+use Rattle.home.specs.Directories.{round_of}
 use Rattle.home.specs.declared.machine.Home.{Home}
 use Rattle.message.specs.declared.message.Message.{Message}
 use Rattle.ordering.specs.Operations.{is_block, is_write}
@@ -105,7 +106,7 @@ module _ (b : ℕ) (start : Address → ℕ) (x y : Block) (v : Values b start x
         valued_still (now b start x.trail) (now b start y.trail) y.line y.home y.messages
         (λ i _. now_kept b start x.trail y.trail e (ap is_write r.entry.operation) r.trail i)
         (valued_on _ x y [] [] v r.lines (ap (λ (h : Home ℕ). h.words) r.home)
-        (ap (λ (h : Home ℕ). length h.directory.request.words.at) r.home ∙ v.request_four) (still r.messages) tt tt tt)
+        (ap (λ (h : Home ℕ). length (round_of h.directory).request.words.at) r.home ∙ v.request_four) (still r.messages) tt tt tt)
 
     pub loads_reads : Reads (current start x.trail) e
     loads_reads = loads_read p w (x.clock p) e b start x.trail ws r.word (v.copies p ws r.held) r.entry
@@ -137,7 +138,7 @@ module _ (b : ℕ) (start : Address → ℕ) (x y : Block) (v : Values b start x
       carried = subst (All (Data (now b start y.trail))) (sym r.messages)
           (All-weaker Bare (Data (now b start y.trail)) (bare_data (now b start y.trail)) x.messages (none_carried x.messages (no_data x t p owns)));
       four = subst (All (λ (m : Message ℕ). length m.words.at ≡ 4)) (sym r.messages) v.four;
-      request_four = ap (λ (h : Home ℕ). length h.directory.request.words.at) r.home ∙ v.request_four;
+      request_four = ap (λ (h : Home ℕ). length (round_of h.directory).request.words.at) r.home ∙ v.request_four;
     }
       where
         here : y.line p ≡ Exclusive (with_word ws w n)

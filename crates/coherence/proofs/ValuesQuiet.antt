@@ -1,5 +1,6 @@
 -- Moves in which no data goes or comes and no copy changes: the values of a block stay.
 use Rattle.std.proofs.Common.{◌≡◌, ℕ, true, false, cond, eqb, ◌⊎◌, List, [], ◌∷◌, length, sym, refl, ap, ◌∙◌, subst, inl, inr, arith}
+use Rattle.home.specs.Directories.{round_of}
 use Rattle.home.specs.Requests.{asks_by}
 use Rattle.home.specs.declared.machine.Home.{Home}
 use Rattle.home.specs.declared.processors.Processors.{Processors}
@@ -32,8 +33,8 @@ module _ (b : ℕ) (start : Address → ℕ) (x y : Block) (v : Values b start x
   same_words : y.home ≡ x.home → y.home.words ≡ x.home.words
   same_words is = ap (λ (h : Home ℕ). h.words) is
 
-  same_request : y.home ≡ x.home → length y.home.directory.request.words.at ≡ 4
-  same_request is = ap (λ (h : Home ℕ). length h.directory.request.words.at) is ∙ v.request_four
+  same_request : y.home ≡ x.home → length (round_of y.home.directory).request.words.at ≡ 4
+  same_request is = ap (λ (h : Home ℕ). length (round_of h.directory).request.words.at) is ∙ v.request_four
 
   -- what is gone had four words
   was_four : (m : Message ℕ) (come : List (Message ℕ)) → Posted x.messages (m ∷ []) come y.messages → length m.words.at ≡ 4
@@ -78,7 +79,7 @@ module _ (b : ℕ) (start : Address → ℕ) (x y : Block) (v : Values b start x
   asks_values m t s r =
       values_along b start x y r.trail (valued_on _ x y (m ∷ []) _ v r.lines
       (ap (λ (h : Home ℕ). h.words) r.home)
-      (ap (λ (h : Home ℕ). length h.directory.request.words.at) r.home ∙ was_four m _ r.messages)
+      (ap (λ (h : Home ℕ). length (round_of h.directory).request.words.at) r.home ∙ was_four m _ r.messages)
       r.messages (bare m (kind_number m.kind) r.class (request_bare m.kind r.request), tt)
       (each_asked Bare (asks_by m.kind) b s (λ p. question_bare m.kind (home_node b) p b))
       (each_asked Four (asks_by m.kind) b s (λ p. refl)))
@@ -87,5 +88,5 @@ module _ (b : ℕ) (start : Address → ℕ) (x y : Block) (v : Values b start x
   frees_values n m r =
       values_along b start x y r.trail (valued_on _ x y (m ∷ []) [] v r.lines
       (ap (λ (h : Home ℕ). h.words) r.home)
-      (ap (λ (h : Home ℕ). length h.directory.request.words.at) r.home ∙ v.request_four)
+      (ap (λ (h : Home ℕ). length (round_of h.directory).request.words.at) r.home)
       r.messages (bare m 20 r.class refl, tt) tt tt)

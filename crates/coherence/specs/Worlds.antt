@@ -4,7 +4,6 @@ use Rattle.std.specs.Prelude.{ℕ, Bool, false, List, [], None, slice_index_or, 
 use Rattle.bridge.specs.declared.state.Bridge.{Bridge}
 use Rattle.home.specs.declared.directory.Phase.TheVariants.{Free}
 use Rattle.home.specs.declared.machine.Home.{Home}
-use Rattle.message.specs.declared.kind.Kind.TheVariants.{Gets}
 use Rattle.message.specs.declared.message.Message.{Message}
 use Rattle.processor.specs.declared.state.Processor.{Processor}
 use Rattle.trail.specs.declared.entry.Entry.{Entry}
@@ -36,14 +35,7 @@ abbrev pub no_home : Home ℕ
 no_home = record {
   clock = record { global = 0; local = 0 };
   words = record { at = [] };
-  directory = record {
-    holders = record { at = [] };
-    exclusive = false;
-    phase = Free;
-    request = record { kind = Gets; requester = 0; words = record { at = [] }; clock = 0; sequence = 0 };
-    awaited = record { at = [] };
-    latest = 0;
-  };
+  directory = record { holders = record { at = [] }; exclusive = false; phase = Free };
 }
 
 module _ {A B : Type 0} where

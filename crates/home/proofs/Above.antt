@@ -6,7 +6,7 @@ use Rattle.message.specs.Kinds.{same_kind}
 use Rattle.message.specs.declared.kind.Kind.TheVariants.{Ack}
 use Rattle.message.specs.declared.message.Message.{Message}
 use Rattle.message.specs.declared.reaction.Reaction.{Reaction}
-use Rattle.home.specs.Directories.{awaits}
+use Rattle.home.specs.Directories.{round_of, awaits}
 use Rattle.home.specs.Laws.{has_replied, FinishesAboveAll, HearsAll, RepliedAbove, RepliesAboveAll}
 use Rattle.home.specs.Reactions.{began, finished, asked, heard_home, after_hearing, acknowledged}
 use Rattle.home.specs.Requests.{request_of, operation_for}
@@ -20,7 +20,7 @@ finishes : FinishesAboveAll
 finishes h b = search rules
 
 hears : HearsAll
-hears h p mark w c = search rules
+hears h m = search rules
 
 abbrev Above : Home ℕ → Message ℕ → Reaction (Home ℕ) → Type 0
 Above h m x = has_replied h ≡ false → has_replied x.next ≡ true → RepliedAbove h m x
@@ -49,10 +49,10 @@ at_asked h b m s n =
     (λ _ _ _. at_request h b m n)
     (λ _ _ r. neither _ false refl r)
 
-at_last : (h : Home ℕ) (b : ℕ) (m : Message ℕ) → Above h m (finished (heard_home h m.sender m.exclusive m.words m.clock) b)
+at_last : (h : Home ℕ) (b : ℕ) (m : Message ℕ) → Above h m (finished (heard_home h m) b)
 at_last h b m _ _ =
-    let k = hears h m.sender m.exclusive m.words m.clock in
-    let f = finishes (heard_home h m.sender m.exclusive m.words m.clock) b in
+    let k = hears h m in
+    let f = finishes (heard_home h m) b in
     record {
       own = f.own;
       this = λ _. omega arith;
@@ -62,14 +62,14 @@ at_last h b m _ _ =
       replied = f.replied;
     }
 
-at_ack : (h : Home ℕ) (b : ℕ) (m : Message ℕ) → IfSome (acknowledged h b m.sender m.exclusive m.words m.clock) (Above h m)
+at_ack : (h : Home ℕ) (b : ℕ) (m : Message ℕ) → IfSome (acknowledged h b m) (Above h m)
 at_ack h b m =
     let Q : Option (Reaction (Home ℕ)) → Type 0 = λ o. IfSome o (Above h m) in
-    let k = heard_home h m.sender m.exclusive m.words m.clock in
+    let k = heard_home h m in
     cond_both (awaits h.directory m.sender) (Some (after_hearing k b)) None Q
-    (λ _. cond_both (is_empty k.directory.awaited) (finished k b) (quiet k) (Above h m)
+    (λ _. cond_both (is_empty (round_of k.directory).awaited) (finished k b) (quiet k) (Above h m)
     (λ _. at_last h b m)
-    (λ _. neither _ (has_replied h)))
+    (λ _ _ r. neither _ false refl r))
     (λ _. tt)
 
 pub replies_above_all : RepliesAboveAll

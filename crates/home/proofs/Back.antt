@@ -11,7 +11,7 @@ use Rattle.message.specs.declared.kind.Kind.{Kind}
 use Rattle.message.specs.declared.kind.Kind.TheVariants.{Nack}
 use Rattle.message.specs.declared.message.Message.{Message}
 use Rattle.message.specs.declared.reaction.Reaction.{Reaction}
-use Rattle.home.specs.Directories.{awaits}
+use Rattle.home.specs.Directories.{round_of, awaits}
 use Rattle.home.specs.Laws.{GivenBack, NacksGiveBack}
 use Rattle.home.specs.Reactions.{began, finished, asked, ask_one, asks, heard_home, after_hearing, acknowledged}
 use Rattle.home.specs.Requests.{request_of, asks_by, reply_kind}
@@ -44,14 +44,14 @@ abbrev Back : Home ℕ → ℕ → Message ℕ → Reaction (Home ℕ) → Type 
 Back h b m x = All (λ n. same_kind n.kind Nack ≡ true → GivenBack h b m x n) (sent x.sent)
 
 at_finish : (h k : Home ℕ) (b : ℕ) (m : Message ℕ) → Back h b m (finished k b)
-at_finish h k b m = (never _ _ (no_reply k.directory.request.kind), tt)
+at_finish h k b m = (never _ _ (no_reply (round_of k.directory).request.kind), tt)
 
-at_ack : (h : Home ℕ) (b : ℕ) (m : Message ℕ) → IfSome (acknowledged h b m.sender m.exclusive m.words m.clock) (Back h b m)
+at_ack : (h : Home ℕ) (b : ℕ) (m : Message ℕ) → IfSome (acknowledged h b m) (Back h b m)
 at_ack h b m =
     let Q : Option (Reaction (Home ℕ)) → Type 0 = λ o. IfSome o (Back h b m) in
-    let k = heard_home h m.sender m.exclusive m.words m.clock in
+    let k = heard_home h m in
     cond_both (awaits h.directory m.sender) (Some (after_hearing k b)) None Q
-    (λ _. cond_both (is_empty k.directory.awaited) (finished k b) (quiet k) (Back h b m) (λ _. at_finish h k b m) (λ _. tt))
+    (λ _. cond_both (is_empty (round_of k.directory).awaited) (finished k b) (quiet k) (Back h b m) (λ _. at_finish h k b m) (λ _. tt))
     (λ _. tt)
 
 at_asked : (h : Home ℕ) (b : ℕ) (m : Message ℕ) (s : Processors) → Back h b m (asked h b (request_of m) s)

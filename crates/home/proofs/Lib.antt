@@ -1,4 +1,3 @@
 pub mod Above
 pub mod Back
 pub mod Keeps
-pub mod ServingAsAsked

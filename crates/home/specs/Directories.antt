@@ -1,66 +1,59 @@
 -- The directory of a block: how it stands to a request, and how it changes.
 use Rattle.std.specs.Prelude.{ℕ, max, Bool, true, false, cond}
-use Rattle.home.specs.Requests.{asks_down, gives_copy, gives_ownership}
+use Rattle.home.specs.Requests.{no_request, asks_down, gives_copy, gives_ownership}
 use Rattle.home.specs.Sets.{nobody, has, with_member, is_empty}
 use Rattle.home.specs.declared.directory.Directory.{Directory}
 use Rattle.home.specs.declared.directory.Phase.TheVariants.{Free, Gathering, Replied}
+use Rattle.home.specs.declared.directory.Round.{Round}
 use Rattle.home.specs.declared.request.Request.{Request}
 use Rattle.home.specs.declared.directory.View.{View}
 use Rattle.home.specs.declared.directory.View.TheVariants.{Idle, Shared, Exclusive, Busy}
 use Rattle.home.specs.declared.processors.Processors.{Processors}
 
+-- Some holders are asked for a request: nothing is known of them yet.
+abbrev pub begun : Request → Processors → Round
+begun r asked = record { request = r; awaited = asked; latest = 0 }
+
+-- What is under way: once the reply is sent nobody is awaited, and of a free home's request nothing is kept.
+abbrev pub round_of : Directory → Round
+round_of d = elim d.phase [ Free ↦ begun no_request nobody | Gathering g ↦ g | Replied r ↦ begun r nobody ]
+
 abbrev pub view : Directory → View
 view d =
     elim d.phase [
       | Free ↦ cond (is_empty d.holders) Idle (cond d.exclusive Exclusive Shared)
-      | Gathering ↦ Busy
-      | Replied ↦ Busy
+      | Gathering g ↦ Busy
+      | Replied r ↦ Busy
     ]
 
--- A request is taken, and some holders are asked: nothing is known of them yet.
+-- A request is taken, and some holders are asked.
 abbrev pub asking : Directory → Request → Processors → Directory
-asking d r asked = record {
-  holders = d.holders;
-  exclusive = d.exclusive;
-  phase = Gathering;
-  request = r;
-  awaited = asked;
-  latest = 0;
-}
+asking d r asked = record { holders = d.holders; exclusive = d.exclusive; phase = Gathering (begun r asked) }
 
 -- An acknowledgement is awaited from a processor asked and not yet heard.
 abbrev pub awaits : Directory → ℕ → Bool
-awaits d p = elim d.phase [ Free ↦ false | Gathering ↦ has d.awaited p | Replied ↦ false ]
+awaits d p = elim d.phase [ Free ↦ false | Gathering g ↦ has g.awaited p | Replied r ↦ false ]
 
--- Processor p is heard: it holds no copy now, or after DOWN a shared one.
-abbrev pub heard : Directory → ℕ → ℕ → Directory
-heard d p c = record {
-  holders = cond (asks_down d.request.kind) d.holders (with_member d.holders p false);
+-- Processor p is heard, with its clock c.
+abbrev pub heard_round : Round → ℕ → ℕ → Round
+heard_round g p c = record { request = g.request; awaited = with_member g.awaited p false; latest = max g.latest c }
+
+-- It holds no copy now, or after DOWN a shared one; g is what is under way then.
+abbrev pub heard : Directory → Round → ℕ → Directory
+heard d g p = record {
+  holders = cond (asks_down g.request.kind) d.holders (with_member d.holders p false);
   exclusive = false;
-  phase = d.phase;
-  request = d.request;
-  awaited = with_member d.awaited p false;
-  latest = max d.latest c;
+  phase = Gathering g;
 }
 
 -- The reply is sent: the requester holds what it was given.
-abbrev pub replied : Directory → Directory
-replied d = record {
-  holders = cond (gives_copy d.request.kind) (with_member d.holders d.request.requester true) d.holders;
-  exclusive = cond (gives_ownership d.request.kind) true d.exclusive;
-  phase = Replied;
-  request = d.request;
-  awaited = nobody;
-  latest = 0;
+abbrev pub replied : Directory → Request → Directory
+replied d r = record {
+  holders = cond (gives_copy r.kind) (with_member d.holders r.requester true) d.holders;
+  exclusive = cond (gives_ownership r.kind) true d.exclusive;
+  phase = Replied r;
 }
 
 -- The reply is taken.
 abbrev pub freed : Directory → Directory
-freed d = record {
-  holders = d.holders;
-  exclusive = d.exclusive;
-  phase = Free;
-  request = d.request;
-  awaited = d.awaited;
-  latest = d.latest;
-}
+freed d = record { holders = d.holders; exclusive = d.exclusive; phase = Free }

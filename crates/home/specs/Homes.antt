@@ -1,29 +1,16 @@
 -- Homes: a new one, and one with numbers that may stand past their end.
 use Rattle.std.specs.Prelude.{ℕ, false, cond, Some, None, Option}
-use Rattle.message.specs.declared.kind.Kind.TheVariants.{Gets}
 use Rattle.ordering.specs.Clocks.{is_within}
-use Rattle.ordering.specs.Words.{no_words}
 use Rattle.ordering.specs.declared.clock.Clock.{Clock}
 use Rattle.ordering.specs.declared.operation.Words.{Words}
 use Rattle.home.specs.Sets.{nobody}
 use Rattle.home.specs.declared.directory.Directory.{Directory}
 use Rattle.home.specs.declared.directory.Phase.TheVariants.{Free}
-use Rattle.home.specs.declared.request.Request.{Request}
 use Rattle.home.specs.declared.machine.Home.{Home}
-
-abbrev pub no_request : Request
-no_request = record { kind = Gets; requester = 0; words = no_words; clock = 0; sequence = 0 }
 
 -- Free, and nobody holds a copy.
 abbrev pub new_directory : Directory
-new_directory = record {
-  holders = nobody;
-  exclusive = false;
-  phase = Free;
-  request = no_request;
-  awaited = nobody;
-  latest = 0;
-}
+new_directory = record { holders = nobody; exclusive = false; phase = Free }
 
 abbrev pub home : Clock ℕ → Words → Directory → Home ℕ
 home c w d = record { clock = c; words = w; directory = d }

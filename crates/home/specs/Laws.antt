@@ -7,8 +7,8 @@ use Rattle.message.specs.declared.kind.Kind.TheVariants.{Upg, Rblk, Wblk, Ack, N
 use Rattle.message.specs.declared.message.Message.{Message}
 use Rattle.message.specs.declared.reaction.Reaction.{Reaction}
 use Rattle.ordering.specs.Operations.{is_write}
-use Rattle.ordering.specs.declared.operation.Words.{Words}
 use Rattle.std.specs.List.{AllByRecursion}
+use Rattle.home.specs.Directories.{round_of}
 use Rattle.home.specs.Plans.{plan}
 use Rattle.home.specs.Reactions.{finished, heard_home, received}
 use Rattle.home.specs.Requests.{operation_for}
@@ -21,7 +21,7 @@ use Rattle.home.specs.declared.plan.Plan.TheVariants.{Ask}
 use Rattle.home.specs.declared.processors.Processors.{Processors}
 
 abbrev pub is_free : Home ℕ → Bool
-is_free h = elim h.directory.phase [ Free ↦ true | Gathering ↦ false | Replied ↦ false ]
+is_free h = elim h.directory.phase [ Free ↦ true | Gathering g ↦ false | Replied r ↦ false ]
 
 -- NACK gives a request back with its words, its clock and its number.
 abbrev pub given_back : ℕ → Message ℕ → Message ℕ
@@ -56,7 +56,7 @@ NacksGiveBack =
 -- Once busy, it is free again only by TAKEN from the requester, and that does free it.
 pub record FreedBy (h : Home ℕ) (m : Message ℕ) : Type 0 where
   pub kind : same_kind m.kind Taken ≡ true
-  pub sender : h.directory.request.requester ≡ m.sender
+  pub sender : (round_of h.directory).request.requester ≡ m.sender
 
 abbrev pub BusyUntilTaken : Type 0
 BusyUntilTaken =
@@ -82,35 +82,35 @@ ClockNeverGoesBack =
 -- and, for a device, above the request's. Operation and reply have that number, and the home waits for TAKEN.
 pub record PassedOnce (h : Home ℕ) (x : Reaction (Home ℕ)) : Type 0 where
   pub own : h.clock.global < x.next.clock.global
-  pub heard : h.directory.latest < x.next.clock.global
-  pub asked : is_some (operation_for h.directory.request.kind) ≡ true → h.directory.request.clock < x.next.clock.global
-  pub least : (n : ℕ) → h.clock.global ≤ n → h.directory.latest ≤ n → h.directory.request.clock ≤ n → x.next.clock.global ≤ n + 1
+  pub heard : (round_of h.directory).latest < x.next.clock.global
+  pub asked : is_some (operation_for (round_of h.directory).request.kind) ≡ true → (round_of h.directory).request.clock < x.next.clock.global
+  pub least : (n : ℕ) → h.clock.global ≤ n → (round_of h.directory).latest ≤ n → (round_of h.directory).request.clock ≤ n → x.next.clock.global ≤ n + 1
   pub stamped : IfSome x.entry (λ e. e.stamp.global ≡ x.next.clock.global)
   pub replied : AllByRecursion (λ n. n.clock ≡ x.next.clock.global) (sent x.sent)
-  pub waits : x.next.directory.phase ≡ Replied
+  pub waits : x.next.directory.phase ≡ Replied (round_of h.directory).request
 
 abbrev pub FinishesAboveAll : Type 0
 FinishesAboveAll = (h : Home ℕ) (b : ℕ) → PassedOnce h (finished h b)
 
 -- What is heard is kept until then: the greatest clock, and the words of an owner.
-pub record Kept (h : Home ℕ) (mark : Bool) (w : Words) (c : ℕ) (k : Home ℕ) : Type 0 where
-  pub earlier : h.directory.latest ≤ k.directory.latest
-  pub this : c ≤ k.directory.latest
-  pub marked : mark ≡ true → k.words ≡ w
-  pub unmarked : mark ≡ false → k.words ≡ h.words
+pub record Kept (h : Home ℕ) (m : Message ℕ) (k : Home ℕ) : Type 0 where
+  pub earlier : (round_of h.directory).latest ≤ (round_of k.directory).latest
+  pub this : m.clock ≤ (round_of k.directory).latest
+  pub marked : m.exclusive ≡ true → k.words ≡ m.words
+  pub unmarked : m.exclusive ≡ false → k.words ≡ h.words
 
 abbrev pub HearsAll : Type 0
-HearsAll = (h : Home ℕ) (p : ℕ) (mark : Bool) (w : Words) (c : ℕ) → Kept h mark w c (heard_home h p mark w c)
+HearsAll = (h : Home ℕ) (m : Message ℕ) → Kept h m (heard_home h m)
 
 -- So whenever a home replies, the reply is above its own clock, above this message's and above those heard before it.
 abbrev pub has_replied : Home ℕ → Bool
-has_replied h = elim h.directory.phase [ Free ↦ false | Gathering ↦ false | Replied ↦ true ]
+has_replied h = elim h.directory.phase [ Free ↦ false | Gathering g ↦ false | Replied r ↦ true ]
 
 pub record RepliedAbove (h : Home ℕ) (m : Message ℕ) (x : Reaction (Home ℕ)) : Type 0 where
   pub own : h.clock.global < x.next.clock.global
   pub this : (same_kind m.kind Ack || is_some (operation_for m.kind)) ≡ true → m.clock < x.next.clock.global
-  pub earlier : same_kind m.kind Ack ≡ true → h.directory.latest < x.next.clock.global
-  pub request : same_kind m.kind Ack ≡ true → is_some (operation_for h.directory.request.kind) ≡ true → h.directory.request.clock < x.next.clock.global
+  pub earlier : same_kind m.kind Ack ≡ true → (round_of h.directory).latest < x.next.clock.global
+  pub request : same_kind m.kind Ack ≡ true → is_some (operation_for (round_of h.directory).request.kind) ≡ true → (round_of h.directory).request.clock < x.next.clock.global
   pub stamped : IfSome x.entry (λ e. e.stamp.global ≡ x.next.clock.global)
   pub replied : AllByRecursion (λ n. n.clock ≡ x.next.clock.global) (sent x.sent)
 
@@ -134,15 +134,15 @@ WordsStay =
 -- Ownership is granted only to one that shares.
 abbrev pub GrantsToSharers : Type 0
 GrantsToSharers =
-    (v : View) (holders asked : Processors) (p : ℕ) → plan Upg v holders p ≡ Ask asked → (v ≡ Shared) × (has holders p ≡ true)
+    (v : View) (holders asked : Processors) (p : ℕ) → plan Upg v holders p ≡ Some (Ask asked) → (v ≡ Shared) × (has holders p ≡ true)
 
 -- A device's write writes the words of its request; its read gets the words of the home, and the reply tells them.
 pub record ServesAsAsked (h : Home ℕ) (b : ℕ) : Type 0 where
-  pub written : same_kind h.directory.request.kind Wblk ≡ true → (finished h b).next.words ≡ h.directory.request.words
-  pub writes : same_kind h.directory.request.kind Wblk ≡ true → IfSome (finished h b).entry (λ e. e.values ≡ h.directory.request.words)
-  pub reads : same_kind h.directory.request.kind Rblk ≡ true → IfSome (finished h b).entry (λ e. e.values ≡ h.words)
-  pub told : same_kind h.directory.request.kind Rblk ≡ true → AllByRecursion (λ n. n.words ≡ h.words) (sent (finished h b).sent)
-  pub issuer : IfSome (finished h b).entry (λ e. (e.party ≡ h.directory.request.requester) × (e.sequence ≡ h.directory.request.sequence))
+  pub written : same_kind (round_of h.directory).request.kind Wblk ≡ true → (finished h b).next.words ≡ (round_of h.directory).request.words
+  pub writes : same_kind (round_of h.directory).request.kind Wblk ≡ true → IfSome (finished h b).entry (λ e. e.values ≡ (round_of h.directory).request.words)
+  pub reads : same_kind (round_of h.directory).request.kind Rblk ≡ true → IfSome (finished h b).entry (λ e. e.values ≡ h.words)
+  pub told : same_kind (round_of h.directory).request.kind Rblk ≡ true → AllByRecursion (λ n. n.words ≡ h.words) (sent (finished h b).sent)
+  pub issuer : IfSome (finished h b).entry (λ e. (e.party ≡ (round_of h.directory).request.requester) × (e.sequence ≡ (round_of h.directory).request.sequence))
 
 abbrev pub HomesServeAsAsked : Type 0
 HomesServeAsAsked = (h : Home ℕ) (b : ℕ) → ServesAsAsked h b

@@ -1,5 +1,5 @@
 -- What a home does with a request, by how its directory stands.
-use Rattle.std.specs.Prelude.{ℕ, false, cond}
+use Rattle.std.specs.Prelude.{ℕ, false, cond, Some, None, Option}
 use Rattle.message.specs.Kinds.{same_kind}
 use Rattle.message.specs.declared.kind.Kind.{Kind}
 use Rattle.message.specs.declared.kind.Kind.TheVariants.{Gets, Getx, Upg, Wb, Rblk, Wblk}
@@ -7,40 +7,46 @@ use Rattle.home.specs.Sets.{nobody, has, with_member}
 use Rattle.home.specs.declared.directory.View.{View}
 use Rattle.home.specs.declared.directory.View.TheVariants.{Idle, Shared, Exclusive, Busy}
 use Rattle.home.specs.declared.plan.Plan.{Plan}
-use Rattle.home.specs.declared.plan.Plan.TheVariants.{Nothing, Refuse, Ask}
+use Rattle.home.specs.declared.plan.Plan.TheVariants.{Refuse, Ask}
 use Rattle.home.specs.declared.processors.Processors.{Processors}
 
+abbrev pub refuse : Option Plan
+refuse = Some Refuse
+
+abbrev pub ask : Processors → Option Plan
+ask h = Some (Ask h)
+
 -- Finish with nobody asked.
-abbrev pub at_once : Plan
-at_once = Ask nobody
+abbrev pub at_once : Option Plan
+at_once = ask nobody
 
 -- All but the requester.
-abbrev pub ask_others : Processors → ℕ → Plan
-ask_others h p = Ask (with_member h p false)
+abbrev pub ask_others : Processors → ℕ → Option Plan
+ask_others h p = ask (with_member h p false)
 
 -- A holder that asks for a copy has no rule.
-abbrev pub newcomer : Processors → ℕ → Plan → Plan
-newcomer h p plan = cond (has h p) Nothing plan
+abbrev pub newcomer : Processors → ℕ → Option Plan → Option Plan
+newcomer h p plan = cond (has h p) None plan
 
 -- Whoever betters its copy or gives it back has to hold one.
-abbrev pub holder : Processors → ℕ → Plan → Plan
-holder h p plan = cond (has h p) plan Refuse
+abbrev pub holder : Processors → ℕ → Option Plan → Option Plan
+holder h p plan = cond (has h p) plan refuse
 
 -- The columns of the table; a busy home refuses every request.
-abbrev pub column : View → Plan → Plan → Plan → Plan
+abbrev pub column : View → Option Plan → Option Plan → Option Plan → Option Plan
 column Idle i s x = i
 column Shared i s x = s
 column Exclusive i s x = x
-column Busy i s x = Refuse
+column Busy i s x = refuse
 
 -- Rows are requests, columns an idle, a shared and an exclusive home. h are the holders, of an exclusive home its owner
 -- alone; p is the requester. GETS and Rblk ask by DOWN, the others by INV, and what follows is the request's reply.
-abbrev pub plan : Kind → View → Processors → ℕ → Plan
+abbrev pub plan : Kind → View → Processors → ℕ → Option Plan
 plan k v h p =
-    cond (same_kind k Gets) (column v (newcomer h p at_once) (newcomer h p at_once) (newcomer h p (Ask h)))
-    (cond (same_kind k Getx) (column v (newcomer h p at_once) (newcomer h p (Ask h)) (newcomer h p (Ask h)))
-    (cond (same_kind k Upg) (column v Refuse (holder h p (ask_others h p)) Refuse)
-    (cond (same_kind k Wb) (column v Refuse Refuse (holder h p (Ask h)))
-    (cond (same_kind k Rblk) (column v at_once at_once (Ask h))
-    (cond (same_kind k Wblk) (column v at_once (Ask h) (Ask h))
-    Nothing)))))
+    cond (same_kind k Gets) (column v (newcomer h p at_once) (newcomer h p at_once) (newcomer h p (ask h)))
+    (cond (same_kind k Getx) (column v (newcomer h p at_once) (newcomer h p (ask h)) (newcomer h p (ask h)))
+    (cond (same_kind k Upg) (column v refuse (holder h p (ask_others h p)) refuse)
+    (cond (same_kind k Wb) (column v refuse refuse (holder h p (ask h)))
+    (cond (same_kind k Rblk) (column v at_once at_once (ask h))
+    (cond (same_kind k Wblk) (column v at_once (ask h) (ask h))
+    None)))))

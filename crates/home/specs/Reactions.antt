@@ -15,26 +15,27 @@ use Rattle.ordering.specs.Words.{no_words}
 use Rattle.ordering.specs.declared.clock.Clock.{Clock}
 use Rattle.ordering.specs.declared.operation.Words.{Words}
 use Rattle.trail.specs.declared.entry.Entry.{Entry}
-use Rattle.home.specs.Directories.{view, asking, awaits, heard, replied, freed}
+use Rattle.home.specs.Directories.{round_of, view, asking, awaits, heard_round, heard, replied, freed}
 use Rattle.home.specs.Homes.{home}
 use Rattle.home.specs.Plans.{plan}
 use Rattle.home.specs.Requests.{request_of, asks_by, reply_kind, carries_words, operation_for}
 use Rattle.home.specs.Sets.{nobody, has, is_empty}
 use Rattle.home.specs.declared.directory.Directory.{Directory}
 use Rattle.home.specs.declared.directory.Phase.TheVariants.{Free, Gathering, Replied}
+use Rattle.home.specs.declared.directory.Round.{Round}
 use Rattle.home.specs.declared.machine.Home.{Home}
 use Rattle.home.specs.declared.plan.Plan.{Plan}
-use Rattle.home.specs.declared.plan.Plan.TheVariants.{Nothing, Refuse, Ask}
+use Rattle.home.specs.declared.plan.Plan.TheVariants.{Refuse, Ask}
 use Rattle.home.specs.declared.processors.Processors.{Processors}
 use Rattle.home.specs.declared.request.Request.{Request}
 
 -- To finish, a home passes once the greatest clock that it heard and, for a device, the request's; then it does the
 -- device's operation.
-abbrev pub clock_after : Clock ℕ → Directory → Clock ℕ
-clock_after c d =
-    cond (is_some (operation_for d.request.kind))
-    (counted (passed c (max d.latest d.request.clock)))
-    (passed c d.latest)
+abbrev pub clock_after : Clock ℕ → Round → Clock ℕ
+clock_after c g =
+    cond (is_some (operation_for g.request.kind))
+    (counted (passed c (max g.latest g.request.clock)))
+    (passed c g.latest)
 
 -- Only STblk writes.
 abbrev pub words_after : Words → Request → Words
@@ -68,17 +69,20 @@ reply b r w c = record {
   refused = None;
 }
 
-abbrev pub finished_at : Clock ℕ → Words → Directory → ℕ → Reaction (Home ℕ)
-finished_at c w d b = record {
-  next = home c w (replied d);
-  sent = single (reply b d.request w c.global);
-  entry = entry_for b d.request w c;
+abbrev pub finished_at : Clock ℕ → Words → Directory → Request → ℕ → Reaction (Home ℕ)
+finished_at c w d r b = record {
+  next = home c w (replied d r);
+  sent = single (reply b r w c.global);
+  entry = entry_for b r w c;
   answer = None;
 }
 
--- All who were asked are heard.
+-- All who were asked are heard: g is what is under way.
+abbrev pub finished_in : Home ℕ → Round → ℕ → Reaction (Home ℕ)
+finished_in h g b = finished_at (clock_after h.clock g) (words_after h.words g.request) h.directory g.request b
+
 abbrev pub finished : Home ℕ → ℕ → Reaction (Home ℕ)
-finished h b = finished_at (clock_after h.clock h.directory) (words_after h.words h.directory.request) h.directory b
+finished h b = finished_in h (round_of h.directory) b
 
 -- The request goes back as it came, and nothing changes.
 abbrev pub nack : ℕ → Request → Message ℕ
@@ -117,31 +121,34 @@ asked h b r s =
     (finished (began h r) b)
     (record { next = asking_home h r s; sent = asks (asks_by r.kind) b s; entry = None; answer = None })
 
-abbrev pub planned : Home ℕ → ℕ → Request → Plan → Option (Reaction (Home ℕ))
-planned h b r Nothing = None
-planned h b r Refuse = Some (refused h b r)
-planned h b r (Ask s) = Some (asked h b r s)
+abbrev pub planned : Home ℕ → ℕ → Request → Option Plan → Option (Reaction (Home ℕ))
+planned h b r None = None
+planned h b r (Some Refuse) = Some (refused h b r)
+planned h b r (Some (Ask s)) = Some (asked h b r s)
 
 abbrev pub requested : Home ℕ → ℕ → Request → Option (Reaction (Home ℕ))
 requested h b r = planned h b r (plan r.kind (view h.directory) h.directory.holders r.requester)
 
--- Processor p is heard; words under the exclusive mark are the block's words now.
-abbrev pub heard_home : Home ℕ → ℕ → Bool → Words → ℕ → Home ℕ
-heard_home h p mark w c = home h.clock (cond mark w h.words) (heard h.directory p c)
+-- The sender of m is heard, and then g is under way; words under the exclusive mark are the block's words now.
+abbrev pub heard_in : Home ℕ → Round → Message ℕ → Home ℕ
+heard_in h g m = home h.clock (cond m.exclusive m.words h.words) (heard h.directory g m.sender)
+
+abbrev pub heard_home : Home ℕ → Message ℕ → Home ℕ
+heard_home h m = heard_in h (heard_round (round_of h.directory) m.sender m.clock) m
 
 -- The last who is heard lets the home finish.
 abbrev pub after_hearing : Home ℕ → ℕ → Reaction (Home ℕ)
-after_hearing h b = cond (is_empty h.directory.awaited) (finished h b) (quiet h)
+after_hearing h b = cond (is_empty (round_of h.directory).awaited) (finished h b) (quiet h)
 
-abbrev pub acknowledged : Home ℕ → ℕ → ℕ → Bool → Words → ℕ → Option (Reaction (Home ℕ))
-acknowledged h b p mark w c = cond (awaits h.directory p) (Some (after_hearing (heard_home h p mark w c) b)) None
+abbrev pub acknowledged : Home ℕ → ℕ → Message ℕ → Option (Reaction (Home ℕ))
+acknowledged h b m = cond (awaits h.directory m.sender) (Some (after_hearing (heard_home h m) b)) None
 
 -- A device's TAKEN makes the home pass its own global, a processor's moves no clock.
 abbrev pub clock_freed : Clock ℕ → ℕ → Clock ℕ
 clock_freed c n = cond (is_device n) (passed c c.global) c
 
 abbrev pub awaits_taken : Directory → ℕ → Bool
-awaits_taken d n = elim d.phase [ Free ↦ false | Gathering ↦ false | Replied ↦ nat_eq d.request.requester n ]
+awaits_taken d n = elim d.phase [ Free ↦ false | Gathering g ↦ false | Replied r ↦ nat_eq r.requester n ]
 
 abbrev pub taken : Home ℕ → ℕ → Option (Reaction (Home ℕ))
 taken h n =
@@ -151,7 +158,7 @@ taken h n =
 abbrev pub received : Home ℕ → ℕ → Message ℕ → Option (Reaction (Home ℕ))
 received h b m =
     cond (nat_lt b 16)
-    (cond (same_kind m.kind Ack) (acknowledged h b m.sender m.exclusive m.words m.clock)
+    (cond (same_kind m.kind Ack) (acknowledged h b m)
     (cond (same_kind m.kind Taken) (taken h m.sender)
     (requested h b (request_of m))))
     None

@@ -4,9 +4,14 @@ use Rattle.message.specs.Kinds.{same_kind}
 use Rattle.message.specs.declared.kind.Kind.{Kind}
 use Rattle.message.specs.declared.kind.Kind.TheVariants.{Gets, Getx, Upg, Rblk, Wblk, Inv, Down, SData, XData, Grant, Done, Words}
 use Rattle.message.specs.declared.message.Message.{Message}
+use Rattle.ordering.specs.Words.{no_words}
 use Rattle.ordering.specs.declared.operation.Operation.{Operation}
 use Rattle.ordering.specs.declared.operation.Operation.TheVariants.{LdBlk, StBlk}
 use Rattle.home.specs.declared.request.Request.{Request}
+
+-- The request of a home that has none.
+abbrev pub no_request : Request
+no_request = record { kind = Gets; requester = 0; words = no_words; clock = 0; sequence = 0 }
 
 abbrev pub request_of : Message ℕ → Request
 request_of m = record {

@@ -1,31 +1,36 @@
 //! The directory of a block: who holds a copy, whether as its owner, and the request under way.
 
 ghost use Rattle.std.specs.Prelude.{◌≡◌};
-ghost use Rattle.home.specs.Directories.{view, asking, awaits, heard, replied, freed};
+ghost use Rattle.home.specs.Directories.{begun, heard_round, view, asking, heard, replied, freed};
 
 use crate::processors::Processors;
 use crate::request::Request;
+
+/// A request whose holders are asked. `awaited` are not yet heard, `latest` is the greatest clock
+/// among those that are.
+#[derive(Clone, Copy)]
+pub struct Round {
+    pub request: Request,
+    pub awaited: Processors,
+    pub latest: u32,
+}
 
 #[derive(Clone, Copy)]
 pub enum Phase {
     /// No request is under way.
     Free,
     /// Some of the holders have been asked and not all are heard.
-    Gathering,
+    Gathering(Round),
     /// The reply is sent and not yet taken.
-    Replied,
+    Replied(Request),
 }
 
-/// Presence and the exclusive bit keep their meaning while a request is under way. `awaited` are
-/// asked and not yet heard, `latest` is the greatest clock among those heard.
+/// Presence and the exclusive bit keep their meaning while a request is under way.
 #[derive(Clone, Copy)]
 pub struct Directory {
     pub holders: Processors,
     pub exclusive: bool,
     pub phase: Phase,
-    pub request: Request,
-    pub awaited: Processors,
-    pub latest: u32,
 }
 
 /// How a directory stands to a request.
@@ -37,23 +42,43 @@ pub enum View {
     Busy,
 }
 
+impl Round {
+    /// Nobody is heard yet.
+    pub(crate) fn of(request: Request, asked: Processors) -> Round
+        ensures { result ≡ begun request asked }
+    {
+        Round {
+            request,
+            awaited: asked,
+            latest: 0,
+        }
+    }
+
+    pub(crate) fn heard(self, processor: u32, clock: u32) -> Round
+        ensures { result ≡ heard_round self processor clock }
+    {
+        Round {
+            awaited: self.awaited.with(processor, false),
+            latest: self.latest.max(clock),
+            ..self
+        }
+    }
+}
+
 impl Directory {
     pub fn view(self) -> View
         ensures { result ≡ view self }
     {
-        match self.phase {
-            Phase::Gathering => View::Busy,
-            Phase::Replied => View::Busy,
-            Phase::Free => {
-                if self.holders.is_empty() {
-                    return View::Idle;
-                }
-                if self.exclusive {
-                    return View::Exclusive;
-                }
-                View::Shared
-            }
+        let Phase::Free = self.phase else {
+            return View::Busy;
+        };
+        if self.holders.is_empty() {
+            return View::Idle;
         }
+        if self.exclusive {
+            return View::Exclusive;
+        }
+        View::Shared
     }
 
     /// The request is taken, and these holders are asked.
@@ -61,53 +86,37 @@ impl Directory {
         ensures { result ≡ asking self request asked }
     {
         Directory {
-            holders: self.holders,
-            exclusive: self.exclusive,
-            phase: Phase::Gathering,
-            request,
-            awaited: asked,
-            latest: 0,
+            phase: Phase::Gathering(Round::of(request, asked)),
+            ..self
         }
     }
 
-    /// Whether the processor is asked and not yet heard.
-    pub(crate) fn awaits(self, processor: u32) -> bool
-        ensures { result ≡ awaits self processor }
-    {
-        match self.phase {
-            Phase::Gathering => self.awaited.has(processor),
-            _ => false,
-        }
-    }
-
-    /// The processor is heard: it holds no copy now, or after DOWN a shared one.
-    pub(crate) fn heard(self, processor: u32, clock: u32) -> Directory
-        ensures { result ≡ heard self processor clock }
+    /// The processor is heard: it holds no copy now, or after DOWN a shared one. `round` is what
+    /// is under way then.
+    pub(crate) fn heard(self, round: Round, processor: u32) -> Directory
+        ensures { result ≡ heard self round processor }
     {
         let mut next = self;
-        if !self.request.asks_down() {
+        if !round.request.asks_down() {
             next.holders = self.holders.with(processor, false);
         }
         next.exclusive = false;
-        next.awaited = self.awaited.with(processor, false);
-        next.latest = self.latest.max(clock);
+        next.phase = Phase::Gathering(round);
         next
     }
 
     /// The reply is sent: the requester holds what it was given.
-    pub(crate) fn replied(self) -> Directory
-        ensures { result ≡ replied self }
+    pub(crate) fn replied(self, request: Request) -> Directory
+        ensures { result ≡ replied self request }
     {
         let mut next = self;
-        if self.request.gives_copy() {
-            next.holders = self.holders.with(self.request.requester, true);
+        if request.gives_copy() {
+            next.holders = self.holders.with(request.requester, true);
         }
-        if self.request.gives_ownership() {
+        if request.gives_ownership() {
             next.exclusive = true;
         }
-        next.phase = Phase::Replied;
-        next.awaited = Processors::none();
-        next.latest = 0;
+        next.phase = Phase::Replied(request);
         next
     }
 
@@ -115,8 +124,9 @@ impl Directory {
     pub(crate) fn freed(self) -> Directory
         ensures { result ≡ freed self }
     {
-        let mut next = self;
-        next.phase = Phase::Free;
-        next
+        Directory {
+            phase: Phase::Free,
+            ..self
+        }
     }
 }

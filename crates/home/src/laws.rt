@@ -9,6 +9,7 @@ pub fn busy_homes_refuse()
 {}
 
 /// A NACK gives back the request with its words, clock and number, and changes nothing.
+#[tactic(auto, using(crate::proofs::Back::nacks_give_back))]
 pub fn nacks_give_back()
     ensures { NacksGiveBack }
 {}
@@ -25,6 +26,7 @@ pub fn other_kinds_have_no_rule()
 {}
 
 /// No message sets a home's clock back.
+#[tactic(auto, using(crate::proofs::Keeps::clock_never_goes_back))]
 pub fn clocks_never_go_back()
     ensures { ClockNeverGoesBack }
 {}
@@ -36,11 +38,13 @@ pub fn homes_finish_above_all()
 {}
 
 /// Operation and reply stand above all that the home was told before them.
+#[tactic(auto, using(crate::proofs::Above::replies_above_all))]
 pub fn replies_are_above_all()
     ensures { RepliesAboveAll }
 {}
 
 /// Only an owner's words and a device's write change a home's words.
+#[tactic(auto, using(crate::proofs::Keeps::words_stay))]
 pub fn words_stay()
     ensures { WordsStay }
 {}

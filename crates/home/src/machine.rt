@@ -5,8 +5,6 @@ ghost use Rattle.home.specs.Homes.{new_home, settled_home};
 
 use crate::directory::{Directory, Phase};
 use crate::processors::Processors;
-use crate::request::Request;
-use message::kind::Kind;
 use ordering::clock::{Clock, Settle};
 use ordering::operation::Words;
 
@@ -23,7 +21,6 @@ impl Home {
     pub fn new(clock: u32, words: Words) -> Home
         ensures { result ≡ new_home clock words }
     {
-        let nobody = Processors::none();
         Home {
             clock: Clock {
                 global: clock,
@@ -31,18 +28,9 @@ impl Home {
             },
             words,
             directory: Directory {
-                holders: nobody,
+                holders: Processors::none(),
                 exclusive: false,
                 phase: Phase::Free,
-                request: Request {
-                    kind: Kind::Gets,
-                    requester: 0,
-                    words: Words::ZERO,
-                    clock: 0,
-                    sequence: 0,
-                },
-                awaited: nobody,
-                latest: 0,
             },
         }
     }

@@ -18,17 +18,16 @@ impl Processors {
     pub fn has(self, processor: u32) -> bool
         ensures { result ≡ has self processor }
     {
-        if processor >= 4 {
-            return false;
-        }
-        self.at[processor as usize]
+        self.at.get(processor as usize).copied().unwrap_or(false)
     }
 
     /// The same set with a processor in it or not; what is no processor changes nothing.
+    #[tactic(auto, using(std::proofs::lemmas::List::set_past))]
     pub fn with(self, processor: u32, present: bool) -> Processors
         ensures { result ≡ with_member self processor present }
     {
         let mut next = self;
+        // Of a write through `get_mut` a proof knows no element.
         if processor < 4 {
             next.at[processor as usize] = present;
         }
@@ -38,6 +37,6 @@ impl Processors {
     pub fn is_empty(self) -> bool
         ensures { result ≡ is_empty self }
     {
-        !(self.at[0] || self.at[1] || self.at[2] || self.at[3])
+        !self.at.contains(&true)
     }
 }

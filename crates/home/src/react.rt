@@ -1,13 +1,14 @@
 //! What a home does when a message reaches it.
 
-ghost use Rattle.std.specs.Prelude.{◌≡◌, ◌<◌, IfSome, None};
-ghost use Rattle.home.specs.Reactions.{clock_after, words_after, entry_for, reply, nack, finished, refused, ask_one, asks, asked, requested, heard_home, acknowledged, clock_freed, taken, received};
+ghost use Rattle.std.specs.Prelude.{◌≡◌, IfSome, None};
+ghost use Rattle.home.specs.Reactions.{clock_after, words_after, entry_for, reply, nack, finished_in, refused, ask_one, asks, asked, requested, heard_in, acknowledged, clock_freed, taken, received};
 
-use crate::directory::Phase;
+use crate::directory::{Phase, Round};
 use crate::machine::Home;
 use crate::plan::Plan;
 use crate::processors::Processors;
 use crate::request::Request;
+use message::block::Block;
 use message::kind::Kind;
 use message::message::Message;
 use message::node::is_device;
@@ -19,8 +20,7 @@ use trail::entry::Entry;
 
 impl Request {
     // The operation that the home does for it, at `clock`.
-    fn entry(self, block: u32, words: Words, clock: Clock<u64>) -> Option<Entry>
-        requires { block < 16 }
+    fn entry(self, block: Block, words: Words, clock: Clock<u64>) -> Option<Entry>
         ensures { result ≡ entry_for block self words clock }
     {
         Some(Entry {
@@ -28,17 +28,21 @@ impl Request {
             sequence: self.sequence,
             operation: self.operation()?,
             space: 0,
-            place: block,
+            place: block.number(),
             values: words,
-            stamp: Stamp::of(clock, 16 + block),
+            stamp: Stamp::of(clock, block.home()),
         })
     }
 
-    fn reply(self, block: u32, words: Words, clock: u64) -> Message
-        requires { block < 16 }
+    fn reply(self, block: Block, words: Words, clock: u64) -> Message
         ensures { result ≡ reply block self words clock }
     {
-        let mut reply = Message::plain(self.reply_kind(), 16 + block, self.requester, block);
+        let mut reply = Message::plain(
+            self.reply_kind(),
+            block.home(),
+            self.requester,
+            block.number(),
+        );
         if self.carries_words() {
             reply.words = words;
         }
@@ -47,15 +51,14 @@ impl Request {
     }
 
     // The request goes back as it came.
-    fn nack(self, block: u32) -> Message
-        requires { block < 16 }
+    fn nack(self, block: Block) -> Message
         ensures { result ≡ nack block self }
     {
         Message {
             kind: Kind::Nack,
-            sender: 16 + block,
+            sender: block.home(),
             receiver: self.requester,
-            place: block,
+            place: block.number(),
             words: self.words,
             clock: u64::from(self.clock),
             sequence: self.sequence,
@@ -65,67 +68,55 @@ impl Request {
     }
 }
 
-fn ask_one(kind: Kind, block: u32, holders: Processors, processor: u32) -> Option<Message>
-    requires { block < 16 }
+fn ask_one(kind: Kind, block: Block, holders: Processors, processor: u32) -> Option<Message>
     ensures { result ≡ ask_one kind block holders processor }
 {
-    if !holders.has(processor) {
-        return None;
-    }
-    Some(Message::plain(kind, 16 + block, processor, block))
+    holders.has(processor).then(|| Message::plain(kind, block.home(), processor, block.number()))
 }
 
 // In rising order of the processors.
-fn asks(kind: Kind, block: u32, holders: Processors) -> Outbox
-    requires { block < 16 }
+fn asks(kind: Kind, block: Block, holders: Processors) -> Outbox
     ensures { result ≡ asks kind block holders }
 {
     Outbox {
-        at: [
-            ask_one(kind, block, holders, 0),
-            ask_one(kind, block, holders, 1),
-            ask_one(kind, block, holders, 2),
-            ask_one(kind, block, holders, 3),
-        ],
+        at: [0, 1, 2, 3].map(|processor| ask_one(kind, block, holders, processor)),
     }
 }
 
 impl Home {
     // One passing of all that was heard; for a device then its operation.
-    fn clock_after(self) -> Clock<u64>
-        ensures { result ≡ clock_after self.clock self.directory }
+    fn clock_after(self, round: Round) -> Clock<u64>
+        ensures { result ≡ clock_after self.clock round }
     {
-        let latest = self.directory.latest;
-        if self.directory.request.operation().is_some() {
+        if round.request.operation().is_some() {
             return self
                 .clock
-                .passed_and_counted(latest.max(self.directory.request.clock));
+                .passed_and_counted(round.latest.max(round.request.clock));
         }
-        self.clock.passed(latest)
+        self.clock.passed(round.latest)
     }
 
-    fn words_after(self) -> Words
-        ensures { result ≡ words_after self.words self.directory.request }
+    fn words_after(self, request: Request) -> Words
+        ensures { result ≡ words_after self.words request }
     {
-        if self.directory.request.kind.is(Kind::Wblk) {
-            return self.directory.request.words;
+        if let Kind::Wblk = request.kind {
+            return request.words;
         }
         self.words
     }
 
     // All who were asked are heard: the operation and the reply.
-    fn finished(self, block: u32) -> Reaction<Home<u64>>
-        requires { block < 16 }
-        ensures { result ≡ finished self block }
+    fn finished(self, block: Block, round: Round) -> Reaction<Home<u64>>
+        ensures { result ≡ finished_in self round block }
     {
-        let request = self.directory.request;
-        let clock = self.clock_after();
-        let words = self.words_after();
+        let request = round.request;
+        let clock = self.clock_after(round);
+        let words = self.words_after(request);
         Reaction {
             next: Home {
                 clock,
                 words,
-                directory: self.directory.replied(),
+                directory: self.directory.replied(request),
             },
             sent: Outbox::single(request.reply(block, words, clock.global)),
             entry: request.entry(block, words, clock),
@@ -133,8 +124,7 @@ impl Home {
         }
     }
 
-    fn refused(self, block: u32, request: Request) -> Reaction<Home<u64>>
-        requires { block < 16 }
+    fn refused(self, block: Block, request: Request) -> Reaction<Home<u64>>
         ensures { result ≡ refused self block request }
     {
         Reaction {
@@ -146,15 +136,16 @@ impl Home {
     }
 
     // The request is taken.
-    fn asked(self, block: u32, request: Request, holders: Processors) -> Reaction<Home<u64>>
-        requires { block < 16 }
+    fn asked(self, block: Block, request: Request, holders: Processors) -> Reaction<Home<u64>>
         ensures { result ≡ asked self block request holders }
     {
-        let mut next = self;
-        next.directory = self.directory.asking(request, holders);
         if holders.is_empty() {
-            return next.finished(block);
+            return self.finished(block, Round::of(request, holders));
         }
+        let next = Home {
+            directory: self.directory.asking(request, holders),
+            ..self
+        };
         Reaction {
             next: next.into(),
             sent: asks(request.asks_by(), block, holders),
@@ -163,53 +154,48 @@ impl Home {
         }
     }
 
-    fn requested(self, block: u32, request: Request) -> Option<Reaction<Home<u64>>>
-        requires { block < 16 }
+    fn requested(self, block: Block, request: Request) -> Option<Reaction<Home<u64>>>
         ensures value { result ≡ requested self block request }
         ensures quiet { IfSome result (λ x. x.answer ≡ None) }
     {
         let directory = self.directory;
-        match Plan::of(
+        let plan = Plan::of(
             request.kind,
             directory.view(),
             directory.holders,
             request.requester,
-        ) {
-            Plan::Nothing => None,
-            Plan::Refuse => Some(self.refused(block, request)),
-            Plan::Ask(holders) => Some(self.asked(block, request, holders)),
-        }
+        )?;
+        Some(match plan {
+            Plan::Refuse => self.refused(block, request),
+            Plan::Ask(holders) => self.asked(block, request, holders),
+        })
     }
 
     // Marked words are the block's words now.
-    fn heard(self, processor: u32, mark: bool, words: Words, clock: u32) -> Home
-        ensures { result ≡ heard_home self processor mark words clock }
+    fn heard(self, round: Round, message: Message<u32>) -> Home
+        ensures { result ≡ heard_in self round message }
     {
         let mut next = self;
-        if mark {
-            next.words = words;
+        if message.exclusive {
+            next.words = message.words;
         }
-        next.directory = self.directory.heard(processor, clock);
+        next.directory = self.directory.heard(round, message.sender);
         next
     }
 
-    fn acknowledged(
-        self,
-        block: u32,
-        processor: u32,
-        mark: bool,
-        words: Words,
-        clock: u32,
-    ) -> Option<Reaction<Home<u64>>>
-        requires { block < 16 }
-        ensures { result ≡ acknowledged self block processor mark words clock }
+    fn acknowledged(self, block: Block, message: Message<u32>) -> Option<Reaction<Home<u64>>>
+        ensures { result ≡ acknowledged self block message }
     {
-        if !self.directory.awaits(processor) {
+        let Phase::Gathering(round) = self.directory.phase else {
+            return None;
+        };
+        if !round.awaited.has(message.sender) {
             return None;
         }
-        let next = self.heard(processor, mark, words, clock);
-        if next.directory.awaited.is_empty() {
-            return Some(next.finished(block));
+        let round = round.heard(message.sender, message.clock);
+        let next = self.heard(round, message);
+        if round.awaited.is_empty() {
+            return Some(next.finished(block, round));
         }
         Some(Reaction {
             next: next.into(),
@@ -232,10 +218,10 @@ impl Home {
     fn taken(self, sender: u32) -> Option<Reaction<Home<u64>>>
         ensures { result ≡ taken self sender }
     {
-        let Phase::Replied = self.directory.phase else {
+        let Phase::Replied(request) = self.directory.phase else {
             return None;
         };
-        if self.directory.request.requester != sender {
+        if request.requester != sender {
             return None;
         }
         Some(Reaction {
@@ -255,17 +241,9 @@ impl Home {
         ensures value { result ≡ received self block message }
         ensures quiet { IfSome result (λ x. x.answer ≡ None) }
     {
-        if block >= 16 {
-            return None;
-        }
+        let block = Block::new(block)?;
         match message.kind {
-            Kind::Ack => self.acknowledged(
-                block,
-                message.sender,
-                message.exclusive,
-                message.words,
-                message.clock,
-            ),
+            Kind::Ack => self.acknowledged(block, message),
             Kind::Taken => self.taken(message.sender),
             _ => self.requested(block, Request::of(message)),
         }

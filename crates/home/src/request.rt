@@ -34,7 +34,7 @@ impl Request {
     pub(crate) fn asks_down(self) -> bool
         ensures { result ≡ asks_down self.kind }
     {
-        self.kind.is(Kind::Gets) || self.kind.is(Kind::Rblk)
+        matches!(self.kind, Kind::Gets | Kind::Rblk)
     }
 
     /// By which message the holders are asked.
@@ -77,7 +77,7 @@ impl Request {
     pub(crate) fn gives_copy(self) -> bool
         ensures { result ≡ gives_copy self.kind }
     {
-        self.kind.is(Kind::Gets) || self.gives_ownership()
+        matches!(self.kind, Kind::Gets) || self.gives_ownership()
     }
 
     /// What the home itself does for a device.

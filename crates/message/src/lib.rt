@@ -2,6 +2,7 @@
 
 #![tactic(auto)]
 
+pub mod block;
 pub mod figures;
 pub mod form;
 pub mod kind;
