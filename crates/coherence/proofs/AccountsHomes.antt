@@ -7,7 +7,7 @@ use Rattle.home.specs.Reactions.{acknowledged, after_hearing, ask_one, asked, as
 use Rattle.home.specs.Requests.{asks_by, request_of}
 use Rattle.home.specs.Sets.{has, is_empty}
 use Rattle.home.specs.declared.machine.Home.{Home}
-use Rattle.home.specs.declared.processors.Processors.{Processors}
+use Rattle.home.specs.Sets.{Processors}
 use Rattle.home.specs.declared.request.Request.{Request}
 use Rattle.message.specs.Kinds.{is_request}
 use Rattle.message.specs.Messages.{plain}

@@ -9,7 +9,7 @@ use Rattle.home.specs.Sets.{is_empty}
 use Rattle.home.specs.declared.machine.Home.{Home}
 use Rattle.home.specs.declared.plan.Plan.{Plan}
 use Rattle.home.specs.declared.plan.Plan.TheVariants.{Refuse, Ask}
-use Rattle.home.specs.declared.processors.Processors.{Processors}
+use Rattle.home.specs.Sets.{Processors}
 use Rattle.home.specs.declared.request.Request.{Request}
 use Rattle.message.specs.Kinds.{is_request, same_kind}
 use Rattle.message.specs.Reactions.{sent, quiet}

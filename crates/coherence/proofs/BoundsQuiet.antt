@@ -4,7 +4,7 @@ use Rattle.home.specs.Directories.{round_of}
 use Rattle.home.specs.Reactions.{clock_freed, reply}
 use Rattle.home.specs.Requests.{asks_by}
 use Rattle.home.specs.declared.machine.Home.{Home}
-use Rattle.home.specs.declared.processors.Processors.{Processors}
+use Rattle.home.specs.Sets.{Processors}
 use Rattle.home.specs.declared.request.Request.{Request}
 use Rattle.message.specs.Kinds.{kind_number, is_request}
 use Rattle.message.specs.Messages.{plain}

@@ -7,7 +7,7 @@ use Rattle.home.specs.Reactions.{clock_after, words_after, finished, reply, nack
 use Rattle.home.specs.Requests.{request_of, asks_by}
 use Rattle.home.specs.Sets.{has, is_empty}
 use Rattle.home.specs.declared.machine.Home.{Home}
-use Rattle.home.specs.declared.processors.Processors.{Processors}
+use Rattle.home.specs.Sets.{Processors}
 use Rattle.home.specs.declared.request.Request.{Request}
 use Rattle.message.specs.Messages.{plain}
 use Rattle.message.specs.Nodes.{home_node}

@@ -9,7 +9,7 @@ use Rattle.home.specs.Requests.{request_of, asks_by}
 use Rattle.home.specs.Sets.{nobody, is_empty}
 use Rattle.home.specs.declared.directory.Phase.TheVariants.{Free}
 use Rattle.home.specs.declared.plan.Plan.TheVariants.{Ask}
-use Rattle.home.specs.declared.processors.Processors.{Processors}
+use Rattle.home.specs.Sets.{Processors}
 use Rattle.message.specs.Kinds.{kind_number, is_request}
 use Rattle.message.specs.Messages.{plain}
 use Rattle.message.specs.Nodes.{home_node}

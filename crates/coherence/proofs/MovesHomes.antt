@@ -14,7 +14,7 @@ use Rattle.home.specs.declared.directory.View.{View}
 use Rattle.home.specs.declared.directory.View.TheVariants.{Busy}
 use Rattle.home.specs.declared.machine.Home.{Home}
 use Rattle.home.specs.declared.plan.Plan.TheVariants.{Ask}
-use Rattle.home.specs.declared.processors.Processors.{Processors}
+use Rattle.home.specs.Sets.{Processors}
 use Rattle.message.specs.Kinds.{kind_number, is_request}
 use Rattle.message.specs.Laws.{goes_home, comes_from_home}
 use Rattle.message.specs.Messages.{plain}

@@ -10,7 +10,7 @@ use Rattle.home.specs.Sets.{nobody, is_empty}
 use Rattle.home.specs.declared.machine.Home.{Home}
 use Rattle.home.specs.declared.plan.Plan.{Plan}
 use Rattle.home.specs.declared.plan.Plan.TheVariants.{Refuse, Ask}
-use Rattle.home.specs.declared.processors.Processors.{Processors}
+use Rattle.home.specs.Sets.{Processors}
 use Rattle.list.specs.Contents.{removed}
 use Rattle.message.proofs.Numbering.{numbers_tell_kinds}
 use Rattle.message.specs.Kinds.{same_kind, is_request}

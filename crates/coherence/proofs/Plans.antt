@@ -6,7 +6,7 @@ use Rattle.home.specs.Sets.{has}
 use Rattle.home.specs.declared.directory.View.{View}
 use Rattle.home.specs.declared.directory.View.TheVariants.{Idle, Shared, Exclusive}
 use Rattle.home.specs.declared.plan.Plan.TheVariants.{Ask}
-use Rattle.home.specs.declared.processors.Processors.{Processors}
+use Rattle.home.specs.Sets.{Processors}
 use Rattle.message.specs.Kinds.{kind_number}
 use Rattle.message.specs.declared.kind.Kind.{Kind}
 use Rattle.processor.proofs.Tables.{put_read}

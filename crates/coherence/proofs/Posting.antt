@@ -9,7 +9,7 @@ use Rattle.home.specs.Reactions.{ask_one, asks, awaits_taken, began, finished, h
 use Rattle.home.specs.Requests.{asks_by, request_of}
 use Rattle.home.specs.Sets.{has, is_empty}
 use Rattle.home.specs.declared.machine.Home.{Home}
-use Rattle.home.specs.declared.processors.Processors.{Processors}
+use Rattle.home.specs.Sets.{Processors}
 use Rattle.home.specs.declared.request.Request.{Request}
 use Rattle.message.specs.Messages.{plain}
 use Rattle.message.specs.Nodes.{home_node}

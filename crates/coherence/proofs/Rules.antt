@@ -8,7 +8,7 @@ use Rattle.home.specs.Sets.{has}
 use Rattle.home.specs.declared.directory.View.{View}
 use Rattle.home.specs.declared.directory.View.TheVariants.{Busy}
 use Rattle.home.specs.declared.machine.Home.{Home}
-use Rattle.home.specs.declared.processors.Processors.{Processors}
+use Rattle.home.specs.Sets.{Processors}
 use Rattle.home.specs.declared.request.Request.{Request}
 use Rattle.message.specs.Kinds.{kind_number, is_request, same_kind}
 use Rattle.message.specs.Requests.{is_out, out}

@@ -3,7 +3,7 @@
 use Rattle.std.proofs.Common.{◌≡◌, ℕ, zero, suc, ◌+◌, ◌≤◌, true, false, length, sym, refl, ap, ◌∙◌, ⊎_elim, arith}
 use Rattle.home.specs.Directories.{round_of}
 use Rattle.home.specs.Sets.{has, is_empty}
-use Rattle.home.specs.declared.processors.Processors.{Processors}
+use Rattle.home.specs.Sets.{Processors}
 use Rattle.processor.specs.declared.line.Line.{Line}
 use Rattle.processor.specs.declared.line.Line.TheVariants.{Invalid, Shared, Exclusive}
 use Rattle.std.proofs.lemmas.List.{get_or_past}

@@ -2,7 +2,7 @@
 use Rattle.std.proofs.Common.{◌≡◌, ℕ, zero, suc, ◌+◌, ◌<◌, ◌≤◌, Bool, true, false, cond, ◌&&◌, eqb, List, [], ◌∷◌, ◌++◌, length, get_or, Some, None, Option, sym, refl, ap, ◌∙◌, ⊎_elim, arith}
 use Rattle.home.specs.Reactions.{ask_one, asks}
 use Rattle.home.specs.Sets.{has}
-use Rattle.home.specs.declared.processors.Processors.{Processors}
+use Rattle.home.specs.Sets.{Processors}
 use Rattle.list.specs.Contents.{removed}
 use Rattle.message.specs.Kinds.{kind_number}
 use Rattle.message.specs.Messages.{no_message, plain}

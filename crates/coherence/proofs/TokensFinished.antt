@@ -5,7 +5,7 @@ use Rattle.home.specs.Laws.{has_replied}
 use Rattle.home.specs.Reactions.{reply}
 use Rattle.home.specs.Sets.{has, with_member}
 use Rattle.home.specs.declared.machine.Home.{Home}
-use Rattle.home.specs.declared.processors.Processors.{Processors}
+use Rattle.home.specs.Sets.{Processors}
 use Rattle.home.specs.declared.request.Request.{Request}
 use Rattle.message.specs.Kinds.{kind_number, is_request}
 use Rattle.message.specs.Nodes.{is_device}

@@ -8,7 +8,7 @@ use Rattle.home.specs.Sets.{nobody, has, is_empty}
 use Rattle.home.specs.declared.directory.Directory.{Directory}
 use Rattle.home.specs.declared.directory.Phase.TheVariants.{Free}
 use Rattle.home.specs.declared.machine.Home.{Home}
-use Rattle.home.specs.declared.processors.Processors.{Processors}
+use Rattle.home.specs.Sets.{Processors}
 use Rattle.message.specs.Kinds.{kind_number, is_request}
 use Rattle.message.specs.Reactions.{sent}
 use Rattle.message.specs.declared.kind.Kind.{Kind}

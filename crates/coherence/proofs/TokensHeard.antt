@@ -5,7 +5,7 @@ use Rattle.home.specs.Laws.{has_replied}
 use Rattle.home.specs.Requests.{asks_down}
 use Rattle.home.specs.Sets.{has, with_member}
 use Rattle.home.specs.declared.machine.Home.{Home}
-use Rattle.home.specs.declared.processors.Processors.{Processors}
+use Rattle.home.specs.Sets.{Processors}
 use Rattle.message.specs.declared.message.Message.{Message}
 use Rattle.std.proofs.lemmas.List.{get_or-set_same, get_or-set_other}
 use Rattle.std.proofs.lemmas.Bool.{eqb-false}

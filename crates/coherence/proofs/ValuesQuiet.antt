@@ -3,7 +3,7 @@ use Rattle.std.proofs.Common.{◌≡◌, ℕ, true, false, cond, eqb, ◌⊎◌,
 use Rattle.home.specs.Directories.{round_of}
 use Rattle.home.specs.Requests.{asks_by}
 use Rattle.home.specs.declared.machine.Home.{Home}
-use Rattle.home.specs.declared.processors.Processors.{Processors}
+use Rattle.home.specs.Sets.{Processors}
 use Rattle.message.specs.Kinds.{kind_number, is_request}
 use Rattle.message.specs.Messages.{plain}
 use Rattle.message.specs.Nodes.{home_node}

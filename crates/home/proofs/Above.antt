@@ -12,7 +12,7 @@ use Rattle.home.specs.Reactions.{began, finished, asked, heard_home, after_heari
 use Rattle.home.specs.Requests.{request_of, operation_for}
 use Rattle.home.specs.Sets.{is_empty}
 use Rattle.home.specs.declared.machine.Home.{Home}
-use Rattle.home.specs.declared.processors.Processors.{Processors}
+use Rattle.home.specs.Sets.{Processors}
 use Rattle.home.proofs.Keeps.{by_rule}
 use Rattle.message.specs.Reactions.{quiet}
 

@@ -17,7 +17,7 @@ use Rattle.home.specs.Reactions.{began, finished, asked, ask_one, asks, heard_ho
 use Rattle.home.specs.Requests.{request_of, asks_by, reply_kind}
 use Rattle.home.specs.Sets.{has, is_empty}
 use Rattle.home.specs.declared.machine.Home.{Home}
-use Rattle.home.specs.declared.processors.Processors.{Processors}
+use Rattle.home.specs.Sets.{Processors}
 use Rattle.home.proofs.Keeps.{by_rule}
 
 never : (P : Type 0) (t : Bool) → t ≡ false → t ≡ true → P

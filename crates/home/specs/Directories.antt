@@ -8,7 +8,7 @@ use Rattle.home.specs.declared.directory.Round.{Round}
 use Rattle.home.specs.declared.request.Request.{Request}
 use Rattle.home.specs.declared.directory.View.{View}
 use Rattle.home.specs.declared.directory.View.TheVariants.{Idle, Shared, Exclusive, Busy}
-use Rattle.home.specs.declared.processors.Processors.{Processors}
+use Rattle.home.specs.Sets.{Processors}
 
 -- Some holders are asked for a request: nothing is known of them yet.
 abbrev pub begun : Request → Processors → Round

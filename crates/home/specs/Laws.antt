@@ -18,7 +18,7 @@ use Rattle.home.specs.declared.directory.View.{View}
 use Rattle.home.specs.declared.directory.View.TheVariants.{Shared}
 use Rattle.home.specs.declared.machine.Home.{Home}
 use Rattle.home.specs.declared.plan.Plan.TheVariants.{Ask}
-use Rattle.home.specs.declared.processors.Processors.{Processors}
+use Rattle.home.specs.Sets.{Processors}
 
 abbrev pub is_free : Home ℕ → Bool
 is_free h = elim h.directory.phase [ Free ↦ true | Gathering g ↦ false | Replied r ↦ false ]

@@ -8,7 +8,7 @@ use Rattle.home.specs.declared.directory.View.{View}
 use Rattle.home.specs.declared.directory.View.TheVariants.{Idle, Shared, Exclusive, Busy}
 use Rattle.home.specs.declared.plan.Plan.{Plan}
 use Rattle.home.specs.declared.plan.Plan.TheVariants.{Refuse, Ask}
-use Rattle.home.specs.declared.processors.Processors.{Processors}
+use Rattle.home.specs.Sets.{Processors}
 
 abbrev pub refuse : Option Plan
 refuse = Some Refuse

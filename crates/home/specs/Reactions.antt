@@ -26,7 +26,7 @@ use Rattle.home.specs.declared.directory.Round.{Round}
 use Rattle.home.specs.declared.machine.Home.{Home}
 use Rattle.home.specs.declared.plan.Plan.{Plan}
 use Rattle.home.specs.declared.plan.Plan.TheVariants.{Refuse, Ask}
-use Rattle.home.specs.declared.processors.Processors.{Processors}
+use Rattle.home.specs.Sets.{Processors}
 use Rattle.home.specs.declared.request.Request.{Request}
 
 -- To finish, a home passes once the greatest clock that it heard and, for a device, the request's; then it does the

@@ -1,6 +1,9 @@
 -- Sets of processors, as presence bits.
 use Rattle.std.specs.Prelude.{ℕ, Bool, false, not, ◌||◌, [], ◌∷◌, slice_index_or, slice_set}
-use Rattle.home.specs.declared.processors.Processors.{Processors}
+use Rattle.message.specs.declared.table.Table.{Table}
+
+abbrev pub Processors : Type 0
+Processors = Table Bool 4
 
 abbrev pub nobody : Processors
 nobody = record { at = false ∷ false ∷ false ∷ false ∷ [] }

@@ -3,7 +3,7 @@
 ghost use Rattle.std.specs.Prelude.{◌≡◌};
 ghost use Rattle.home.specs.Directories.{begun, heard_round, view, asking, heard, replied, freed};
 
-use crate::processors::Processors;
+use crate::processors::{Processors, is_empty};
 use crate::request::Request;
 
 /// A request whose holders are asked. `awaited` are not yet heard, `latest` is the greatest clock
@@ -72,7 +72,7 @@ impl Directory {
         let Phase::Free = self.phase else {
             return View::Busy;
         };
-        if self.holders.is_empty() {
+        if is_empty(self.holders) {
             return View::Idle;
         }
         if self.exclusive {

@@ -4,7 +4,7 @@ ghost use Rattle.std.specs.Prelude.{◌≡◌};
 ghost use Rattle.home.specs.Homes.{new_home, settled_home};
 
 use crate::directory::{Directory, Phase};
-use crate::processors::Processors;
+use message::table::Table;
 use ordering::clock::{Clock, Settle};
 use ordering::operation::Words;
 
@@ -28,7 +28,7 @@ impl Home {
             },
             words,
             directory: Directory {
-                holders: Processors::none(),
+                holders: Table::blank(),
                 exclusive: false,
                 phase: Phase::Free,
             },

@@ -6,6 +6,7 @@ ghost use Rattle.home.specs.Plans.{plan, newcomer, holder};
 use crate::directory::View;
 use crate::processors::Processors;
 use message::kind::Kind;
+use message::table::Table;
 
 #[derive(Clone, Copy)]
 pub enum Plan {
@@ -19,14 +20,14 @@ pub enum Plan {
 fn newcomer(holders: Processors, requester: u32, then: Plan) -> Option<Plan>
     ensures { result ≡ newcomer holders requester (Some then) }
 {
-    (!holders.has(requester)).then_some(then)
+    (!holders.get(requester)).then_some(then)
 }
 
 // Only a holder can better its copy or give it back.
 fn holder(holders: Processors, requester: u32, then: Plan) -> Option<Plan>
     ensures { result ≡ holder holders requester (Some then) }
 {
-    if holders.has(requester) {
+    if holders.get(requester) {
         return Some(then);
     }
     Some(Plan::Refuse)
@@ -37,7 +38,7 @@ impl Plan {
     pub(crate) fn of(kind: Kind, view: View, holders: Processors, requester: u32) -> Option<Plan>
         ensures { result ≡ plan kind view holders requester }
     {
-        let at_once = Plan::Ask(Processors::none());
+        let at_once = Plan::Ask(Table::blank());
         let ask = Plan::Ask(holders);
         let ask_others = Plan::Ask(holders.with(requester, false));
         match (kind, view) {

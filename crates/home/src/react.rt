@@ -6,7 +6,7 @@ ghost use Rattle.home.specs.Reactions.{clock_after, words_after, entry_for, repl
 use crate::directory::{Phase, Round};
 use crate::machine::Home;
 use crate::plan::Plan;
-use crate::processors::Processors;
+use crate::processors::{Processors, is_empty};
 use crate::request::Request;
 use message::block::Block;
 use message::kind::Kind;
@@ -71,7 +71,7 @@ impl Request {
 fn ask_one(kind: Kind, block: Block, holders: Processors, processor: u32) -> Option<Message>
     ensures { result ≡ ask_one kind block holders processor }
 {
-    holders.has(processor).then(|| Message::plain(kind, block.home(), processor, block.number()))
+    holders.get(processor).then(|| Message::plain(kind, block.home(), processor, block.number()))
 }
 
 // In rising order of the processors.
@@ -112,34 +112,28 @@ impl Home {
         let request = round.request;
         let clock = self.clock_after(round);
         let words = self.words_after(request);
+        let next = Home {
+            clock,
+            words,
+            directory: self.directory.replied(request),
+        };
         Reaction {
-            next: Home {
-                clock,
-                words,
-                directory: self.directory.replied(request),
-            },
-            sent: Outbox::single(request.reply(block, words, clock.global)),
             entry: request.entry(block, words, clock),
-            answer: None,
+            ..Reaction::sending(next, request.reply(block, words, clock.global))
         }
     }
 
     fn refused(self, block: Block, request: Request) -> Reaction<Home<u64>>
         ensures { result ≡ refused self block request }
     {
-        Reaction {
-            next: self.into(),
-            sent: Outbox::single(request.nack(block)),
-            entry: None,
-            answer: None,
-        }
+        Reaction::sending(self.into(), request.nack(block))
     }
 
     // The request is taken.
     fn asked(self, block: Block, request: Request, holders: Processors) -> Reaction<Home<u64>>
         ensures { result ≡ asked self block request holders }
     {
-        if holders.is_empty() {
+        if is_empty(holders) {
             return self.finished(block, Round::of(request, holders));
         }
         let next = Home {
@@ -147,10 +141,8 @@ impl Home {
             ..self
         };
         Reaction {
-            next: next.into(),
             sent: asks(request.asks_by(), block, holders),
-            entry: None,
-            answer: None,
+            ..Reaction::quiet(next.into())
         }
     }
 
@@ -189,20 +181,15 @@ impl Home {
         let Phase::Gathering(round) = self.directory.phase else {
             return None;
         };
-        if !round.awaited.has(message.sender) {
+        if !round.awaited.get(message.sender) {
             return None;
         }
         let round = round.heard(message.sender, message.clock);
         let next = self.heard(round, message);
-        if round.awaited.is_empty() {
+        if is_empty(round.awaited) {
             return Some(next.finished(block, round));
         }
-        Some(Reaction {
-            next: next.into(),
-            sent: Outbox::silent(),
-            entry: None,
-            answer: None,
-        })
+        Some(Reaction::quiet(next.into()))
     }
 
     // What the home does next is above what a device was told.
@@ -224,16 +211,11 @@ impl Home {
         if request.requester != sender {
             return None;
         }
-        Some(Reaction {
-            next: Home {
-                clock: self.clock_freed(sender),
-                words: self.words,
-                directory: self.directory.freed(),
-            },
-            sent: Outbox::silent(),
-            entry: None,
-            answer: None,
-        })
+        Some(Reaction::quiet(Home {
+            clock: self.clock_freed(sender),
+            words: self.words,
+            directory: self.directory.freed(),
+        }))
     }
 
     /// What the home of the block does with a message, or none where there is no rule for it.

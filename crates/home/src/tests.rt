@@ -19,7 +19,7 @@ fn the_first_to_ask_owns_the_block(rt: HostRuntime) -> Result<(), Fail> {
     };
     let reaction = Home::new(0, Words::ZERO).receive(0, getx).ok_or("no rule")?;
     let reply = reaction.sent.at[0].ok_or("no reply")?;
-    assert_eq!(rt; reply.kind.number(), Kind::XData.number());
+    assert_eq!(rt; reply.kind, Kind::XData);
     assert_eq!(rt; reply.receiver, 2);
     assert_eq!(rt; reply.clock, 1);
     Ok(())

@@ -1,6 +1,5 @@
 -- Tables: a value for each of a few places.
 use Rattle.std.specs.Prelude.{ℕ, replicate, slice_index_or, slice_set}
-
 use Rattle.message.specs.declared.table.Table.{Table}
 
 abbrev pub blank_table : {T : Type 0} {n : ℕ} → T → Table T n

@@ -102,15 +102,10 @@ impl Kind {
     pub fn form(self, refused: Option<Kind>) -> Option<Form>
         ensures { result ≡ form_of self refused }
     {
-        let Some(request) = refused else {
-            if self.is(Kind::Nack) {
-                return None;
-            }
-            return Some(self.row());
-        };
-        if self.is(Kind::Nack) && request.is_request() {
-            return Some(request.row().returned());
+        match (self, refused) {
+            (Kind::Nack, Some(request)) => request.is_request().then(|| request.row().returned()),
+            (Kind::Nack, None) | (_, Some(_)) => None,
+            (_, None) => Some(self.row()),
         }
-        None
     }
 }

@@ -1,7 +1,7 @@
 //! The twenty kinds of message.
 
 ghost use Rattle.std.specs.Prelude.{◌≡◌};
-ghost use Rattle.message.specs.Kinds.{kind_number, same_kind, is_request, request_numbered};
+ghost use Rattle.message.specs.Kinds.{kind_number, is_request, request_numbered};
 
 #[derive(Clone, Copy, Debug, PartialEq, Eq)]
 pub enum Kind {
@@ -33,12 +33,6 @@ impl Kind {
         ensures { result ≡ kind_number self }
     {
         self as u32
-    }
-
-    pub fn is(self, other: Kind) -> bool
-        ensures { result ≡ same_kind self other }
-    {
-        self == other
     }
 
     /// Whether a home is asked for its block by it.

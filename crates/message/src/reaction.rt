@@ -47,42 +47,41 @@ pub struct Reaction<S> {
 }
 
 impl<S> Reaction<S> {
-    pub fn telling(next: S, answer: Option<u32>) -> Reaction<S>
-        ensures { result ≡ telling answer next }
+    pub fn quiet(next: S) -> Reaction<S>
+        ensures { result ≡ quiet next }
     {
         Reaction {
             next,
             sent: Outbox::silent(),
             entry: None,
-            answer,
+            answer: None,
         }
     }
 
-    pub fn quiet(next: S) -> Reaction<S>
-        ensures { result ≡ quiet next }
+    pub fn telling(next: S, told: Option<u32>) -> Reaction<S>
+        ensures { result ≡ telling told next }
     {
-        Reaction::telling(next, None)
+        Reaction {
+            answer: told,
+            ..Reaction::quiet(next)
+        }
     }
 
     pub fn sending(next: S, message: Message) -> Reaction<S>
         ensures { result ≡ sending message next }
     {
         Reaction {
-            next,
             sent: Outbox::single(message),
-            entry: None,
-            answer: None,
+            ..Reaction::quiet(next)
         }
     }
 
-    pub fn doing(next: S, entry: Entry, answer: Option<u32>) -> Reaction<S>
-        ensures { result ≡ doing entry answer next }
+    pub fn doing(next: S, entry: Entry, told: Option<u32>) -> Reaction<S>
+        ensures { result ≡ doing entry told next }
     {
         Reaction {
-            next,
-            sent: Outbox::silent(),
             entry: Some(entry),
-            answer,
+            ..Reaction::telling(next, told)
         }
     }
 }
