@@ -227,7 +227,7 @@ impl Home {
         match message.kind {
             Kind::Ack => self.acknowledged(block, message),
             Kind::Taken => self.taken(message.sender),
-            _ => self.requested(block, Request::of(message)),
+            _ => self.requested(block, Request::from(message)),
         }
     }
 }

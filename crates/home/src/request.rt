@@ -17,10 +17,10 @@ pub struct Request {
     pub sequence: u32,
 }
 
-impl Request {
-    pub(crate) fn of(message: Message<u32>) -> Request
-        ensures { result ≡ request_of message }
-    {
+impl From<Message<u32>> for Request {
+    ghost from_gives = { λ message request. request ≡ request_of message };
+
+    fn from(message: Message<u32>) -> Request {
         Request {
             kind: message.kind,
             requester: message.sender,
@@ -29,7 +29,9 @@ impl Request {
             sequence: message.sequence,
         }
     }
+}
 
+impl Request {
     /// Whether the owner may keep a shared copy.
     pub(crate) fn asks_down(self) -> bool
         ensures { result ≡ asks_down self.kind }
