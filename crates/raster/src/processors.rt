@@ -1,11 +1,13 @@
-//! What the calls of processors do: the checks in the order of their numbers, the processor's reaction, one commit.
+//! The calls of processors, by number: the checks in the order of their numbers, the processor's reaction, one commit.
+//! Each does what the definition of a step says, and a refusal touches nothing.
 
-ghost use Rattle.std.specs.Prelude.{◌≡◌, ◌<◌, true, length, is_some, IfOk, if◌then◌else◌, None, Ok, OnOk, nat_lt, slice_index_or};
+ghost use Rattle.std.specs.Prelude.{◌≡◌, ◌<◌, true, length, if◌then◌else◌, Ok, OnOk, nat_lt, slice_index_or};
 ghost use Rattle.coherence.specs.Steps.{check, argument, step};
 ghost use Rattle.coherence.specs.Worlds.{no_processor};
 ghost use Rattle.coherence.specs.declared.call.Call.TheVariants.{Load, Store, Request, LdIo, StIo, Collect, GiveUp, Poll};
 ghost use Rattle.coherence.specs.declared.fault.BoardFault.TheVariants.{NotFit};
 ghost use Rattle.coherence.specs.declared.fault.Fault.TheVariants as fault;
+ghost use Rattle.raster.specs.Answers.{told, done};
 ghost use Rattle.raster.specs.Boards.{world};
 
 use crate::board::Board;
@@ -50,75 +52,80 @@ impl<A: Device, B: Device> Board<A, B> {
         check_below(word, self.word_count(device), 3)
     }
 
-    pub(crate) fn load_step(
+    /// Does an LD on a line that is S or X, and tells the word.
+    pub fn load(
         &mut self,
         messages: &mut List<Message>,
         trail: &mut List<Entry>,
         processor: u32,
         word: u32,
-    ) -> Result<Option<u32>, Fault>
-        ensures step { (result, world A.Device.state B.Device.state self.new messages.new trail.new) ≡ step A.Device.meaning B.Device.meaning (Load processor word) (world A.Device.state B.Device.state self.old messages.old trail.old) }
-        ensures told { IfOk result (λ a. is_some a ≡ true) }
+    ) -> Result<u32, Fault>
+        ensures { (told result, world A.Device.state B.Device.state self.new messages.new trail.new) ≡ step A.Device.meaning B.Device.meaning (Load processor word) (world A.Device.state B.Device.state self.old messages.old trail.old) }
     {
         let state = self.processor(processor)?;
         check_below(word, 64, 2)?;
         let reaction = state.load(processor, word)?;
-        self.commit_processor(messages, trail, None, processor, reaction)
+        let answer = self.commit_processor(messages, trail, None, processor, reaction)?;
+        Ok(answer.unwrap_or(0))
     }
 
-    pub(crate) fn store_step(
+    /// Does an ST on a line that is X.
+    pub fn store(
         &mut self,
         messages: &mut List<Message>,
         trail: &mut List<Entry>,
         processor: u32,
         word: u32,
         value: u32,
-    ) -> Result<Option<u32>, Fault>
-        ensures step { (result, world A.Device.state B.Device.state self.new messages.new trail.new) ≡ step A.Device.meaning B.Device.meaning (Store processor word value) (world A.Device.state B.Device.state self.old messages.old trail.old) }
-        ensures quiet { IfOk result (λ a. a ≡ None) }
+    ) -> Result<(), Fault>
+        ensures { (done result, world A.Device.state B.Device.state self.new messages.new trail.new) ≡ step A.Device.meaning B.Device.meaning (Store processor word value) (world A.Device.state B.Device.state self.old messages.old trail.old) }
     {
         let state = self.processor(processor)?;
         check_below(word, 64, 2)?;
         let reaction = state.store(processor, word, value)?;
-        self.commit_processor(messages, trail, None, processor, reaction)
+        let _ = self.commit_processor(messages, trail, None, processor, reaction)?;
+        Ok(())
     }
 
-    pub(crate) fn request_step(
+    /// Asks the home of a block for GETS, GETX, UPG or WB: kinds 1 to 4.
+    pub fn request(
         &mut self,
         messages: &mut List<Message>,
         trail: &mut List<Entry>,
         processor: u32,
         block: u32,
         kind: u32,
-    ) -> Result<Option<u32>, Fault>
-        ensures step { (result, world A.Device.state B.Device.state self.new messages.new trail.new) ≡ step A.Device.meaning B.Device.meaning (Request processor block kind) (world A.Device.state B.Device.state self.old messages.old trail.old) }
-        ensures quiet { IfOk result (λ a. a ≡ None) }
+    ) -> Result<(), Fault>
+        ensures { (done result, world A.Device.state B.Device.state self.new messages.new trail.new) ≡ step A.Device.meaning B.Device.meaning (Request processor block kind) (world A.Device.state B.Device.state self.old messages.old trail.old) }
     {
         let state = self.processor(processor)?;
         check_below(block, 16, 2)?;
         let kind = Kind::requested(kind).ok_or(BoardFault::Argument(3))?;
         let reaction = state.request(processor, block, kind)?;
-        self.commit_processor(messages, trail, None, processor, reaction)
+        let _ = self.commit_processor(messages, trail, None, processor, reaction)?;
+        Ok(())
     }
 
-    pub(crate) fn ldio_step(
+    /// Asks a device for one of its words, and takes the slot for it.
+    pub fn ldio(
         &mut self,
         messages: &mut List<Message>,
         trail: &mut List<Entry>,
         processor: u32,
         device: u32,
         word: u32,
-    ) -> Result<Option<u32>, Fault>
-        ensures step { (result, world A.Device.state B.Device.state self.new messages.new trail.new) ≡ step A.Device.meaning B.Device.meaning (LdIo processor device word) (world A.Device.state B.Device.state self.old messages.old trail.old) }
-        ensures quiet { IfOk result (λ a. a ≡ None) }
+    ) -> Result<(), Fault>
+        ensures { (done result, world A.Device.state B.Device.state self.new messages.new trail.new) ≡ step A.Device.meaning B.Device.meaning (LdIo processor device word) (world A.Device.state B.Device.state self.old messages.old trail.old) }
     {
         let state = self.processor(processor)?;
         self.check_device_word(device, word)?;
         let reaction = state.ldio(processor, device, word)?;
-        self.commit_processor(messages, trail, None, processor, reaction)
+        let _ = self.commit_processor(messages, trail, None, processor, reaction)?;
+        Ok(())
     }
 
-    pub(crate) fn stio_step(
+    /// Sends a device a value for one of its words.
+    pub fn stio(
         &mut self,
         messages: &mut List<Message>,
         trail: &mut List<Entry>,
@@ -126,46 +133,48 @@ impl<A: Device, B: Device> Board<A, B> {
         device: u32,
         word: u32,
         value: u32,
-    ) -> Result<Option<u32>, Fault>
-        ensures step { (result, world A.Device.state B.Device.state self.new messages.new trail.new) ≡ step A.Device.meaning B.Device.meaning (StIo processor device word value) (world A.Device.state B.Device.state self.old messages.old trail.old) }
-        ensures quiet { IfOk result (λ a. a ≡ None) }
+    ) -> Result<(), Fault>
+        ensures { (done result, world A.Device.state B.Device.state self.new messages.new trail.new) ≡ step A.Device.meaning B.Device.meaning (StIo processor device word value) (world A.Device.state B.Device.state self.old messages.old trail.old) }
     {
         let state = self.processor(processor)?;
         self.check_device_word(device, word)?;
         let reaction = state.stio(processor, device, word, value)?;
-        self.commit_processor(messages, trail, None, processor, reaction)
+        let _ = self.commit_processor(messages, trail, None, processor, reaction)?;
+        Ok(())
     }
 
-    pub(crate) fn collect_step(
+    /// Tells the word that came from a device, and frees the slot.
+    pub fn collect(
         &mut self,
         messages: &mut List<Message>,
         trail: &mut List<Entry>,
         processor: u32,
         device: u32,
-    ) -> Result<Option<u32>, Fault>
-        ensures step { (result, world A.Device.state B.Device.state self.new messages.new trail.new) ≡ step A.Device.meaning B.Device.meaning (Collect processor device) (world A.Device.state B.Device.state self.old messages.old trail.old) }
-        ensures told { IfOk result (λ a. is_some a ≡ true) }
+    ) -> Result<u32, Fault>
+        ensures { (told result, world A.Device.state B.Device.state self.new messages.new trail.new) ≡ step A.Device.meaning B.Device.meaning (Collect processor device) (world A.Device.state B.Device.state self.old messages.old trail.old) }
     {
         let state = self.processor(processor)?;
         check_below(device, 2, 2)?;
         let reaction = state.collect(device)?;
-        self.commit_processor(messages, trail, None, processor, reaction)
+        let answer = self.commit_processor(messages, trail, None, processor, reaction)?;
+        Ok(answer.unwrap_or(0))
     }
 
-    pub(crate) fn give_up_step(
+    /// Lets the slot for a device go: at once if its word came, else once it comes.
+    pub fn give_up(
         &mut self,
         messages: &mut List<Message>,
         trail: &mut List<Entry>,
         processor: u32,
         device: u32,
-    ) -> Result<Option<u32>, Fault>
-        ensures step { (result, world A.Device.state B.Device.state self.new messages.new trail.new) ≡ step A.Device.meaning B.Device.meaning (GiveUp processor device) (world A.Device.state B.Device.state self.old messages.old trail.old) }
-        ensures quiet { IfOk result (λ a. a ≡ None) }
+    ) -> Result<(), Fault>
+        ensures { (done result, world A.Device.state B.Device.state self.new messages.new trail.new) ≡ step A.Device.meaning B.Device.meaning (GiveUp processor device) (world A.Device.state B.Device.state self.old messages.old trail.old) }
     {
         let state = self.processor(processor)?;
         check_below(device, 2, 2)?;
         let reaction = state.give_up(device)?;
-        self.commit_processor(messages, trail, None, processor, reaction)
+        let _ = self.commit_processor(messages, trail, None, processor, reaction)?;
+        Ok(())
     }
 
     /// Tells the latest interrupt word that was not polled, or none.
