@@ -45,6 +45,7 @@ impl Kind {
         )
     }
 
+    // Not a `TryFrom`: every kind has a number, and a processor asks for four of them.
     /// The kind that a processor may ask for by its number.
     pub fn requested(number: u32) -> Option<Kind>
         ensures { result ≡ request_numbered number }

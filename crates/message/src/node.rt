@@ -7,10 +7,12 @@ ghost use Rattle.message.specs.Nodes.{node_numbered, is_processor, is_device};
 pub enum Node {
     Processor(u32),
     Device(u32),
+    // Not a `Block`: a function of another crate that matches on it gets no proof then.
     Home(u32),
 }
 
 impl Node {
+    // Not a `TryFrom`: of a number that is no node's, nobody asks why.
     /// The node of this number, if there is one.
     pub fn numbered(number: u32) -> Option<Node>
         ensures { result ≡ node_numbered number }
