@@ -1,8 +1,8 @@
 //! What a processor does when a message reaches it, or none where there is no rule. The fields that a
 //! kind leaves empty, and who may send it, are not looked at here. `node` is the processor's own number.
 
-ghost use Rattle.std.specs.Prelude.{◌≡◌, IfSome, None};
-ghost use Rattle.ordering.specs.Words.{first_word};
+ghost use Rattle.std.specs.Prelude.{◌≡◌, is_some, unwrap_or, IfSome, None};
+ghost use Rattle.ordering.specs.Words.{no_words, first_word};
 ghost use Rattle.processor.specs.Receive.{giving_way, invalidated, downgraded, taking_line, taking, filled, granted, done, nacked, interrupt_entry, interrupted, fetched, fetched_from, receive};
 
 use crate::line::Line;
@@ -24,15 +24,15 @@ fn first_word(words: Words) -> u32
 
 impl Processor {
     // Passes its own global, so that what comes after the ACK is above all that it did on the line.
+    // The ACK has the words of a line that was owned.
     fn giving_way(
         self,
         node: u32,
         message: Message<u32>,
         line: Line,
-        exclusive: bool,
-        words: Words,
+        owned: Option<Words>,
     ) -> Reaction<Processor<u64>>
-        ensures { result ≡ giving_way self node message.sender message.place line exclusive words }
+        ensures { result ≡ giving_way self node message.sender message.place line (is_some owned) (unwrap_or owned no_words) }
     {
         let clock = self.clock.passed(self.clock.global);
         let next = Processor {
@@ -41,9 +41,9 @@ impl Processor {
             ..self.into()
         };
         let acknowledgement = Message {
-            words,
+            words: owned.unwrap_or(Words::ZERO),
             clock: clock.global,
-            exclusive,
+            exclusive: owned.is_some(),
             ..Message::plain(Kind::Ack, node, message.sender, message.place)
         };
         Reaction::sending(next, acknowledgement)
@@ -53,12 +53,11 @@ impl Processor {
     fn invalidated(self, node: u32, message: Message<u32>) -> Option<Reaction<Processor<u64>>>
         ensures { result ≡ invalidated self node message.sender message.place }
     {
-        let (exclusive, words) = match self.lines.get(message.place) {
-            Line::Invalid => return None,
-            Line::Shared(_) => (false, Words::ZERO),
-            Line::Exclusive(words) => (true, words),
-        };
-        Some(self.giving_way(node, message, Line::Invalid, exclusive, words))
+        let line = self.lines.get(message.place);
+        if line == Line::Invalid {
+            return None;
+        }
+        Some(self.giving_way(node, message, Line::Invalid, line.owned()))
     }
 
     // DOWN.
@@ -66,7 +65,7 @@ impl Processor {
         ensures { result ≡ downgraded self node message.sender message.place }
     {
         let words = self.lines.get(message.place).owned()?;
-        Some(self.giving_way(node, message, Line::Shared(words), true, words))
+        Some(self.giving_way(node, message, Line::Shared(words), Some(words)))
     }
 
     // The request is answered.
