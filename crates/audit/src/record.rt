@@ -26,6 +26,7 @@ pub const NO_ENTRY: Entry = Entry {
     },
 };
 
+// Not a `TryFrom`: of a field that names none, nobody asks why.
 fn operation_named(field: &[u8]) -> Option<Operation>
     ensures { result ≡ named field.now }
 {

@@ -9,6 +9,7 @@ use crate::fault::DeviceFault;
 use crate::plan::{Deed, Plan, WordAccess};
 use crate::state::{Bridge, device_node};
 use device::meaning::Device;
+use message::block::Block;
 use message::kind::Kind;
 use message::message::Message;
 use message::requests::Requests;
@@ -103,13 +104,11 @@ impl<D: Device> Bridge<D> {
     ) -> Result<Plan<u64>, DeviceFault>
         ensures { result ≡ request number (view D.Device.state self.now) kind block words }
     {
-        if block >= 16 {
-            return Err(DeviceFault::BadWish(u32::from(number)));
-        }
+        let home = Block::new(block).ok_or(DeviceFault::BadWish(u32::from(number)))?.home();
         if self.requests.get(block).is_some() {
             return Err(DeviceFault::MustWait(u32::from(number)));
         }
-        let message = self.wish_message(kind, number, 16 + block, block, words);
+        let message = self.wish_message(kind, number, home, block, words);
         Ok(self.numbering(self.clock.into(), Deed::Request(message)))
     }
 

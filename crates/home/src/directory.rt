@@ -29,6 +29,7 @@ pub enum Phase {
 #[derive(Clone, Copy)]
 pub struct Directory {
     pub holders: Processors,
+    // By rule a bit beside the presence bits.
     pub exclusive: bool,
     pub phase: Phase,
 }

@@ -2,6 +2,7 @@
 
 use std::marker::Model;
 
+// By rule in memory that its user lends, so no `Vec`.
 /// The first `len` places of the memory are the list's records, oldest first.
 #[derive(Drop)]
 pub struct List<'a, T> {

@@ -18,6 +18,7 @@ pub struct Message<N = u64> {
     pub words: Words,
     pub clock: N,
     pub sequence: u32,
+    // By rule a field of its own beside the words, and no `Option` of them.
     pub exclusive: bool,
     pub refused: Option<Kind>,
 }

@@ -6,6 +6,7 @@ ghost use Rattle.message.specs.Reactions.{silent, single, sent_count, telling, q
 use crate::message::Message;
 use trail::entry::Entry;
 
+// By rule in fixed memory, so no `Vec`.
 /// Up to four messages; the full places hold what is sent, in their order.
 #[derive(Clone, Copy)]
 pub struct Outbox {

@@ -4,6 +4,8 @@ ghost use Rattle.std.specs.Prelude.{◌≡◌};
 ghost use Rattle.ordering.specs.Operations.{is_read, is_write, is_block, name_of};
 ghost use Rattle.ordering.specs.Words.{one_word};
 
+use std::fmt;
+
 #[derive(Clone, Copy, Debug, PartialEq, Eq)]
 pub enum Operation {
     Ld,
@@ -47,6 +49,16 @@ impl Operation {
             Operation::LdBlk => "LDblk",
             Operation::StBlk => "STblk",
         }
+    }
+}
+
+impl fmt::Display for Operation {
+    ghost use Rattle.std.specs.Prelude.{Some};
+
+    ghost output = { λ operation. Some (name_of operation) };
+
+    fn fmt<W: fmt::Write>(&self, f: &mut fmt::Formatter<W>) -> fmt::Result {
+        f.write_str(self.name())
     }
 }
 

@@ -11,6 +11,7 @@ pub enum Party {
     Device,
 }
 
+// By rule any space and place may be named, so these are numbers.
 /// What an operation goes to.
 #[derive(Clone, Copy, Debug, PartialEq, Eq)]
 pub struct Access {
@@ -19,6 +20,7 @@ pub struct Access {
     pub place: u32,
 }
 
+// By rule flat tables of the letters A, D and -.
 // Rows are the earlier operation. Rows and columns: LD, ST, LDio, STio.
 #[rattlefmt::skip]
 const PROCESSOR: [char; 16] = [

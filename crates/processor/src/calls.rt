@@ -1,4 +1,5 @@
-//! What a processor does at each call: its reaction, or why it refuses. `node` is its own number.
+//! What a processor does at each call: its reaction, or why it refuses. `node` is its own number, which it does not
+//! hold: that is where it stands on the board.
 
 ghost use Rattle.std.specs.Prelude.{◌≡◌, ◌<◌, true, is_some, IfOk, None};
 ghost use Rattle.processor.specs.Calls.{operation_entry, fetched_all, load, store, fits, request, to_device, ldio, stio, collect, give_up, poll};
@@ -7,6 +8,7 @@ use crate::line::{Line, with_word, word_of};
 use crate::refusal::Refusal;
 use crate::slot::{Slot, awaited_device};
 use crate::state::Processor;
+use message::block::Block;
 use message::kind::Kind;
 use message::message::Message;
 use message::reaction::Reaction;
@@ -67,6 +69,7 @@ impl Processor {
         }
     }
 
+    // What is told stands in the reaction, for each kind of node; `told` and `quiet` say it of each call.
     /// An LD: tells the word.
     pub fn load(self, node: u32, word: u32) -> Result<Reaction<Processor<u64>>, Refusal>
         ensures value { result ≡ load self node word }
@@ -121,7 +124,8 @@ impl Processor {
         ensures value { result ≡ request self node block kind }
         ensures quiet { IfOk result (λ x. x.answer ≡ None) }
     {
-        if block >= 16 || !self.lines.get(block).fits(kind) {
+        let home = Block::new(block).ok_or(Refusal::Unfit(block))?.home();
+        if !self.lines.get(block).fits(kind) {
             return Err(Refusal::Unfit(block));
         }
         if self.requests.get(block).is_some() {
@@ -131,7 +135,7 @@ impl Processor {
             requests: self.requests.with(block, Some(kind)),
             ..self.into()
         };
-        let message = Message::plain(kind, node, 16 + block, block);
+        let message = Message::plain(kind, node, home, block);
         Ok(Reaction::sending(next, message))
     }
 

@@ -5,6 +5,7 @@ ghost use Rattle.std.specs.Prelude.{◌≡◌, ◌≤◌, true};
 use crate::tables::Tables;
 use bridge::state::Bridge;
 
+// By rule a call gets the two lists beside the board, so these stay two parameters of every call.
 #[derive(Drop)]
 pub struct Board<A, B> {
     pub(crate) tables: Tables,

@@ -36,6 +36,7 @@ impl Ticket {
     }
 }
 
+// Call by call, and not by `Deref`: a board that is lent out gives LDio without a ticket.
 impl<A: Device, B: Device> Ticketed<A, B> {
     pub fn new(board: Board<A, B>) -> Ticketed<A, B>
         ensures { result.board ≡ board }

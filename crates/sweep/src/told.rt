@@ -10,14 +10,14 @@ pub struct Told(pub Wish);
 impl fmt::Display for Told {
     fn fmt<W: fmt::Write>(&self, f: &mut fmt::Formatter<W>) -> fmt::Result {
         let wish = self.0;
-        let name = wish.operation.name();
+        let operation = wish.operation;
         let [a, b, c, d] = wish.words.at;
-        match wish.operation {
-            Operation::Int => write!(f, "{name} to processor {} with {a}", wish.processor),
-            Operation::LdBlk => write!(f, "{name} of block {}", wish.place),
-            Operation::StBlk => write!(f, "{name} of block {}: {a} {b} {c} {d}", wish.place),
-            Operation::StIo => write!(f, "{name} of word {}: {a}", wish.place),
-            _ => write!(f, "{name} of word {}", wish.place),
+        match operation {
+            Operation::Int => write!(f, "{operation} to processor {} with {a}", wish.processor),
+            Operation::LdBlk => write!(f, "{operation} of block {}", wish.place),
+            Operation::StBlk => write!(f, "{operation} of block {}: {a} {b} {c} {d}", wish.place),
+            Operation::StIo => write!(f, "{operation} of word {}: {a}", wish.place),
+            _ => write!(f, "{operation} of word {}", wish.place),
         }
     }
 }

@@ -20,6 +20,7 @@ pub fn decimal(field: &[u8]) -> Option<u32>
     if field.is_empty() {
         return None;
     }
+    // Not by `try_fold`: its result was not proved.
     let mut number = 0;
     for byte in field {
         number = with_digit(number, *byte)?;

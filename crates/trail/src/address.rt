@@ -5,6 +5,7 @@ ghost use Rattle.trail.specs.Addresses.{address_of, covers, value_at, has_word, 
 
 use crate::entry::Entry;
 
+// Its space is a number, as an entry's.
 #[derive(Clone, Copy, Debug, PartialEq, Eq)]
 pub struct Address {
     pub space: u32,
