@@ -104,7 +104,9 @@ impl<D: Device> Bridge<D> {
     ) -> Result<Plan<u64>, DeviceFault>
         ensures { result ≡ request number (view D.Device.state self.now) kind block words }
     {
-        let home = Block::new(block).ok_or(DeviceFault::BadWish(u32::from(number)))?.home();
+        let home = Block::new(block)
+            .ok_or(DeviceFault::BadWish(u32::from(number)))?
+            .home();
         if self.requests.get(block).is_some() {
             return Err(DeviceFault::MustWait(u32::from(number)));
         }

@@ -99,7 +99,7 @@ impl Home {
     fn words_after(self, request: Request) -> Words
         ensures { result ≡ words_after self.words request }
     {
-        if let Kind::Wblk = request.kind {
+        if request.kind == Kind::Wblk {
             return request.words;
         }
         self.words

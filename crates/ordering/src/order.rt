@@ -74,10 +74,7 @@ impl Party {
     fn letter(self, earlier: Operation, later: Operation) -> char
         ensures { result ≡ letter self earlier later }
     {
-        let Some(row) = self.column(earlier) else {
-            return '-';
-        };
-        let Some(column) = self.column(later) else {
+        let (Some(row), Some(column)) = (self.column(earlier), self.column(later)) else {
             return '-';
         };
         match self {
