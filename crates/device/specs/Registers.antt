@@ -10,8 +10,8 @@ zeros n = record { at = replicate n 0 }
 abbrev pub read_of : {n : ℕ} → Registers n → ℕ → Result ℕ NoWord
 read_of t p = cond (nat_lt p (length t.at)) (Ok (slice_index t.at p)) (no_word p)
 
-abbrev pub written : {n : ℕ} → Registers n → ℕ → ℕ → Registers n
-written t p v = record { at = slice_set t.at p v }
+abbrev pub after_write : {n : ℕ} → Registers n → ℕ → ℕ → Registers n
+after_write t p v = record { at = slice_set t.at p v }
 
 abbrev pub write_of : {n : ℕ} → Registers n → ℕ → Result (Unit {0}) NoWord
 write_of t p = cond (nat_lt p (length t.at)) (Ok tt) (no_word p)

@@ -4,7 +4,7 @@ use Rattle.device.specs.declared.meaning.Wish.{Wish}
 use Rattle.device.specs.declared.sweeper.Sweeper.{Sweeper}
 use Rattle.device.specs.Meaning.{Meaning}
 use Rattle.device.specs.Sweeps.{commanded, went_on, wished}
-use Rattle.device.specs.Registers.{zeros, written}
+use Rattle.device.specs.Registers.{zeros, after_write}
 use Rattle.device.specs.Tasks.{Task, first_block, block_count, last_wish}
 
 abbrev pub blank : {J : Type 0} (n : ℕ) → Sweeper J n
@@ -16,7 +16,7 @@ sweeper_wish t s = wished (t.each s.words.at) (last_wish t s.words.at) s.sweep
 -- A write to the command's place starts a sweep or stops it.
 abbrev pub sweeper_writing : {J : Type 0} {n : ℕ} → Task → Sweeper J n → ℕ → ℕ → Sweeper J n
 sweeper_writing t s p v = record s {
-  words = written s.words p v;
+  words = after_write s.words p v;
   sweep = cond (p == t.command) (commanded v (first_block t s.words.at) (block_count t s.words.at)) s.sweep;
 }
 

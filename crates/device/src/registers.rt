@@ -1,7 +1,7 @@
 //! The words of a device, by their places.
 
 ghost use Rattle.std.specs.Prelude.{◌≡◌, length};
-ghost use Rattle.device.specs.Registers.{zeros, read_of, written, write_of};
+ghost use Rattle.device.specs.Registers.{zeros, read_of, after_write, write_of};
 
 use crate::meaning::NoWord;
 
@@ -32,7 +32,7 @@ impl<const N: usize> Registers<N> {
     }
 
     pub fn write(&mut self, place: u32, value: u32) -> Result<(), NoWord>
-        ensures exit { self.new ≡ written self.old place value }
+        ensures exit { self.new ≡ after_write self.old place value }
         ensures answer { result ≡ write_of self.old place }
     {
         // Of what `get_mut` lends, a proof knows no element afterwards.

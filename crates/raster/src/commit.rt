@@ -115,6 +115,7 @@ impl<A: Device, B: Device> Board<A, B> {
         Ok(reaction.answer)
     }
 
+    // A number and no `Block`, as in `Node`.
     pub(crate) fn commit_home(
         &mut self,
         messages: &mut List<Message>,
@@ -123,7 +124,6 @@ impl<A: Device, B: Device> Board<A, B> {
         block: u32,
         reaction: Reaction<Home<u64>>,
     ) -> Result<Option<u32>, Fault>
-        // A number and no `Block`, as in `Node`.
         requires { block < 16 }
         ensures step { (result, world A.Device.state B.Device.state self.new messages.new trail.new) ≡ committed (world A.Device.state B.Device.state self.old messages.old trail.old) (left (contents messages.old) taken) (by_home (world A.Device.state B.Device.state self.old messages.old trail.old) block reaction) }
         ensures answer { IfOk result (λ a. a ≡ reaction.answer) }

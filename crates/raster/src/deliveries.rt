@@ -108,6 +108,7 @@ impl<A: Device, B: Device> Board<A, B> {
         Ok(())
     }
 
+    // A number and no `Block`, as in `Node`.
     fn reach_home(
         &mut self,
         messages: &mut List<Message>,
@@ -116,7 +117,6 @@ impl<A: Device, B: Device> Board<A, B> {
         block: u32,
         message: Message<u32>,
     ) -> Result<(), Fault>
-        // A number and no `Block`, as in `Node`.
         requires { block < 16 }
         ensures { (done result, world A.Device.state B.Device.state self.new messages.new trail.new) ≡ settled A.Device.meaning B.Device.meaning (Deliver place) (world A.Device.state B.Device.state self.old messages.old trail.old) (ruled A.Device.meaning B.Device.meaning (world A.Device.state B.Device.state self.old messages.old trail.old) place (option_map (by_home (world A.Device.state B.Device.state self.old messages.old trail.old) block) (received (slice_index_or self.old.tables.homes block no_home) block message))) }
     {

@@ -5,7 +5,7 @@ use Rattle.ordering.specs.declared.operation.Operation.TheVariants.{LdIo, StIo}
 use Rattle.ordering.specs.Words.{one_word}
 use Rattle.device.specs.declared.meaning.Wish.{Wish}
 use Rattle.device.specs.Meaning.{Meaning}
-use Rattle.device.specs.Registers.{zeros, written}
+use Rattle.device.specs.Registers.{zeros, after_write}
 use Rattle.sweep.specs.declared.copier.Copier.{Copier}
 use Rattle.sweep.specs.declared.copier.Copying.{Copying}
 use Rattle.sweep.specs.declared.copier.Phase.{Phase}
@@ -36,7 +36,7 @@ copier_meaning = record {
   wish = λ s. phase_wish s.phase;
   reading = λ s p. s;
   writing = λ s p v. record {
-    words = written s.words p v;
+    words = after_write s.words p v;
     phase = cond (p == 0) (cond (v == 1) Load Rest) s.phase;
   };
   accepted = λ s w. record { words = s.words; phase = next_phase s.phase w };
