@@ -1,5 +1,5 @@
-//! What a bridge decides to do about its device's wish. `number` is the device's, 0 or 1: a narrow
-//! number, so that the node's can always be had from it.
+//! What a bridge decides to do about its device's wish. `number` is the device's, 0 or 1: a narrow number, so that the
+//! node's can always be had from it, and no part of the bridge, since where it stands on the board says it.
 
 ghost use Rattle.std.specs.Prelude.{◌≡◌};
 ghost use Rattle.bridge.specs.Acts.{any_out, numbering, wish_message, own_access, own, interrupt, request, act_plan};
