@@ -34,6 +34,7 @@ impl<T: Blank, const N: usize> Table<T, N> {
     pub fn with(self, place: u32, value: T) -> Table<T, N>
         ensures { result ≡ with_at self place value }
     {
+        // Not by `get_mut`: of what it lends, a proof knows no element afterwards.
         let mut next = self;
         if (place as usize) < N {
             next.at[place as usize] = value;
