@@ -1,5 +1,5 @@
 -- Block requests: one for a block, sent again when refused, and waited for by an interrupt.
-use Rattle.std.proofs.Common.{◌≡◌, ℕ, true, false, ◌⊎◌, List, get_or, set, is_some, Some, None, Option, sym, refl, ap, ◌∙◌, subst, ⊎_elim, arith}
+use Rattle.std.proofs.Common.{◌≡◌, ℕ, true, false, ◌⊎◌, List, get_or, set, is_some, Some, None, Option, sym, ap, ◌∙◌, ⊎_elim, arith}
 use Rattle.std.proofs.lemmas.List.{places, get_or-set_same}
 use Rattle.std.proofs.lemmas.Bool.Decides.{nat_tests}
 use Rattle.device.specs.Meaning.{Meaning}
@@ -13,10 +13,10 @@ use Rattle.message.specs.declared.message.Message.{Message}
 use Rattle.message.specs.declared.reaction.Outbox.{Outbox}
 use Rattle.message.specs.declared.reaction.Reaction.{Reaction}
 use Rattle.bridge.proofs.Outs.{none_out}
-use Rattle.bridge.proofs.Tables.{put_read}
+use Rattle.message.proofs.Tables.{put_read}
 use Rattle.std.specs.List.{list_any}
 use Rattle.bridge.specs.Inputs.{Act, Receive, reaction}
-use Rattle.bridge.specs.Laws.{asks_for_block, RefusedRequestsGoOutAgain, RequestsStayForBlocks, RequestsAreForBlocks, InterruptsWait, WishesAreJudged}
+use Rattle.bridge.specs.Laws.{asks_for_block, RefusedRequestsGoOutAgain, RequestsStayForBlocks, RequestsAreForBlocks, InterruptsWait}
 use Rattle.bridge.specs.Reactions.{receive}
 use Rattle.bridge.specs.Receipts.{again}
 use Rattle.bridge.specs.declared.state.Bridge.{Bridge}
@@ -25,16 +25,11 @@ abbrev wished_place : Option Wish → ℕ
 wished_place None = 0
 wished_place (Some h) = h.place
 
-put_block : (rs : List (Option Kind)) (i k : ℕ) (q j : Kind) → asks_for_block q ≡ true →
-    (get_or rs k None ≡ Some j → asks_for_block j ≡ true) → get_or (set rs i (Some q)) k None ≡ Some j →
+-- What is out after one place was changed asks for a block, if all did and the new one does.
+put_block : (rs : List (Option Kind)) (i k : ℕ) (q : Option Kind) (j : Kind) → (q ≡ Some j → asks_for_block j ≡ true) →
+    (get_or rs k None ≡ Some j → asks_for_block j ≡ true) → get_or (set rs i q) k None ≡ Some j →
     asks_for_block j ≡ true
-put_block rs i k q j a o e =
-    ⊎_elim (λ p. let same : q ≡ j = cc in subst (λ n. asks_for_block n ≡ true) same a) (λ p. o (cc))
-    (put_read rs i k (Some q) None)
-
-end_block : (rs : List (Option Kind)) (i k : ℕ) (j : Kind) → (get_or rs k None ≡ Some j → asks_for_block j ≡ true) →
-    get_or (set rs i None) k None ≡ Some j → asks_for_block j ≡ true
-end_block rs i k j o e = ⊎_elim (λ p. cc) (λ p. o (cc)) (put_read rs i k None None)
+put_block rs i k q j a o e = ⊎_elim (λ p. a (cc)) (λ p. o (cc)) (put_read rs i k q None)
 
 same_single : (y z : Message ℕ) → single y ≡ single z → y ≡ z
 same_single y z e = let first = ap (λ (o : Outbox). get_or o.at 0 None) e in cc
@@ -50,15 +45,7 @@ module _ {S : Type 0} (m : Meaning S) where
     sends = λ b d x r h k. grind (arith, nat_tests);
     again = λ b d x r h n k y f l.
         let same : y ≡ again k d b x = same_single y (again k d b x) (sym l ∙ resent b d x r h n k f) in
-        record {
-          kind = ap (λ (z : Message ℕ). z.kind) same;
-          sender = ap (λ (z : Message ℕ). z.sender) same;
-          receiver = ap (λ (z : Message ℕ). z.receiver) same;
-          place = ap (λ (z : Message ℕ). z.place) same;
-          words = ap (λ (z : Message ℕ). z.words) same;
-          clock = ap (λ (z : Message ℕ). z.clock) same;
-          sequence = ap (λ (z : Message ℕ). z.sequence) same;
-        };
+        record { kind = cc; sender = cc; receiver = cc; place = cc; words = cc; clock = cc; sequence = cc };
   }
 
   -- A wish leaves what is out, or a request to read or write its block is then out.
@@ -74,13 +61,14 @@ module _ {S : Type 0} (m : Meaning S) where
 
   kept : RequestsStayForBlocks m
   kept b d (Act ps) r h o k j e =
+      let place = wished_place (m.wish b.device) in
       ⊎_elim (λ s. o k j (cc))
       (⊎_elim
-      (λ s. put_block b.requests.at (wished_place (m.wish b.device)) k kind.Rblk j refl (o k j) (cc))
-      (λ s. put_block b.requests.at (wished_place (m.wish b.device)) k kind.Wblk j refl (o k j) (cc)))
+      (λ s. put_block b.requests.at place k (Some kind.Rblk) j (λ same. grind (arith, same)) (o k j) (cc))
+      (λ s. put_block b.requests.at place k (Some kind.Wblk) j (λ same. grind (arith, same)) (o k j) (cc)))
       (acted b d ps r h)
   kept b d (Receive x) r h o k j e =
-      ⊎_elim (λ s. o k j (cc)) (λ s. end_block b.requests.at x.place k j (o k j) (cc)) (received b d x r h)
+      ⊎_elim (λ s. o k j (cc)) (λ s. put_block b.requests.at x.place k None j (λ same. cc) (o k j) (cc)) (received b d x r h)
 
   pub requests_are_for_blocks : RequestsAreForBlocks m
   requests_are_for_blocks = record {
@@ -88,7 +76,7 @@ module _ {S : Type 0} (m : Meaning S) where
     kept = kept;
     asked = λ b d i r h e y k l. grind (arith, nat_tests);
     noted = λ b d i r h long e y k l. grind (arith, nat_tests, get_or-set_same b.requests.at y.place (Some y.kind) None);
-    ended = λ b d i r h x e k. grind (arith, nat_tests, put_read b.requests.at x.place x.place None None);
+    ended = λ b d i r h x e k. grind (arith, nat_tests, put_read);
   }
 
   pub interrupts_wait : InterruptsWait m
@@ -96,13 +84,3 @@ module _ {S : Type 0} (m : Meaning S) where
       let free = λ (f : list_any is_some b.requests.at ≡ false). none_out b.requests.at f j in
       grind (arith, nat_tests, free)
   interrupts_wait b d (Receive x) r h o y e k j = grind (arith, nat_tests, o x.place)
-
-  pub wishes_are_judged : WishesAreJudged m
-  wishes_are_judged = record {
-    none = λ b d ps e. grind (arith, nat_tests);
-    foreign = λ b d ps h e k. grind (arith, nat_tests);
-    own = λ b d ps h f e k l. grind (arith, nat_tests);
-    waits = λ b d ps e.
-        let free = λ (f : list_any is_some b.requests.at ≡ false). none_out b.requests.at f (wished_place (m.wish b.device)) in
-        grind (arith, nat_tests, free);
-  }

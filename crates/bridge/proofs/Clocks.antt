@@ -1,8 +1,8 @@
--- Clocks go on, operations are stamped, numbered and told, and a bridge keeps to its part.
+-- Clocks go on, and operations are stamped and numbered.
 use Rattle.std.proofs.Common.{arith}
 use Rattle.std.proofs.lemmas.Bool.Decides.{nat_tests}
 use Rattle.device.specs.Meaning.{Meaning}
-use Rattle.bridge.specs.Laws.{ClocksGoOn, EntriesAreStamped, ValuesAreEntered, BridgesKeepToTheirPart}
+use Rattle.bridge.specs.Laws.{ClocksGoOn, EntriesAreStamped}
 
 module _ {S : Type 0} (m : Meaning S) where
   pub clocks_go_on : ClocksGoOn m
@@ -20,18 +20,4 @@ module _ {S : Type 0} (m : Meaning S) where
     own = λ b d i r h e k l. grind (arith, nat_tests);
     sent = λ b d i r h e x k l. grind (arith, nat_tests);
     numbers = λ b d i r h. grind (arith, nat_tests);
-  }
-
-  pub values_are_entered : ValuesAreEntered m
-  values_are_entered = record {
-    entered = λ b d x r h k. grind (arith, nat_tests);
-    told = λ b d x r h k e l. grind (arith, nat_tests);
-  }
-
-  pub bridges_keep_to_their_part : BridgesKeepToTheirPart m
-  bridges_keep_to_their_part = record {
-    others = λ b d x k. grind (arith, nat_tests);
-    single = λ b d i r h. grind (arith, nat_tests);
-    tells = λ b d i r h. grind (arith, nat_tests);
-    named = λ b d ps f h. grind (arith, nat_tests);
   }

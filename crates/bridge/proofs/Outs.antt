@@ -1,5 +1,5 @@
 -- Where no request is out, none is out for any block.
-use Rattle.std.proofs.Common.{◌≡◌, ℕ, zero, suc, true, false, List, [], ◌∷◌, get_or, is_some, Some, None, Option, refl}
+use Rattle.std.proofs.Common.{◌≡◌, ℕ, zero, suc, false, List, [], ◌∷◌, get_or, is_some, Some, None, Option, refl}
 use Rattle.std.specs.List.{list_any}
 use Rattle.message.specs.declared.kind.Kind.{Kind}
 

@@ -13,10 +13,4 @@ module _ {S : Type 0} (m : Meaning S) where
   }
 
   pub plans_are_kept : PlansAreKept m
-  plans_are_kept = record {
-    clock = λ b d p. grind (arith, nat_tests);
-    sequence = λ b d p. grind (arith, nat_tests);
-    messages = λ b d p. grind (arith, nat_tests);
-    entries = λ b d p. grind (arith, nat_tests);
-    calls = λ b d p. grind (arith, nat_tests);
-  }
+  plans_are_kept = grind (arith, nat_tests)

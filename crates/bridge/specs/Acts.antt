@@ -1,5 +1,5 @@
 -- What a bridge decides to do about its device's wish, or why it may not. d is the device's number, k a block.
-use Rattle.std.specs.Prelude.{ℕ, ◌+◌, Bool, false, cond, length, is_some, Some, None, Ok, Err, Option, Result, nat_lt}
+use Rattle.std.specs.Prelude.{ℕ, ◌+◌, Bool, false, cond, length, is_some, Some, None, Ok, Err, Result, nat_lt}
 use Rattle.std.specs.List.{list_any}
 use Rattle.ordering.specs.Clocks.{counted}
 use Rattle.ordering.specs.Words.{one_word, no_words, first_word}

@@ -11,7 +11,7 @@ use Rattle.trail.specs.declared.entry.Entry.{Entry}
 use Rattle.device.specs.Meaning.{Meaning, read_exit, write_exit}
 use Rattle.message.specs.Messages.{plain}
 use Rattle.message.specs.Nodes.{device_node}
-use Rattle.message.specs.Reactions.{silent, single, sending, doing}
+use Rattle.message.specs.Reactions.{single, sending, doing}
 use Rattle.message.specs.declared.kind.Kind.TheVariants as kind
 use Rattle.message.specs.declared.message.Message.{Message}
 use Rattle.message.specs.declared.reaction.Reaction.{Reaction}

@@ -36,6 +36,7 @@ pub fn requests_are_for_blocks<D: Device>()
 {}
 
 /// No INT is sent while a block request is out.
+#[tactic(auto, using(crate::proofs::Asking::interrupts_wait))]
 pub fn interrupts_wait<D: Device>()
     ensures { InterruptsWait D.Device.meaning }
 {}

@@ -1,7 +1,7 @@
 -- What each reaction of a bridge does to the operations under way, and to the requests that are out.
 use Rattle.std.proofs.Common.{◌≡◌, ℕ, ◌+◌, ◌-◌, ◌<◌, Bool, true, false, ◌||◌, is_some, Some, None, Option, sym, refl, ap, ◌∙◌, subst, arith}
 use Rattle.bridge.proofs.Outs.{none_out}
-use Rattle.processor.proofs.Tables.{put_read}
+use Rattle.message.proofs.Tables.{put_read}
 use Rattle.std.specs.List.{list_any}
 use Rattle.bridge.specs.Deeds.{performed}
 use Rattle.bridge.specs.Inputs.{Act, Receive, reaction, EachReaction}

@@ -7,7 +7,7 @@ use Rattle.message.specs.declared.message.Message.{Message}
 use Rattle.message.specs.declared.reaction.Reaction.{Reaction}
 use Rattle.ordering.specs.Orders.{is_io}
 use Rattle.ordering.specs.Words.{first_word}
-use Rattle.processor.proofs.Tables.{put_read}
+use Rattle.message.proofs.Tables.{put_read}
 use Rattle.processor.specs.Inputs.{Input, reaction, message_of}
 use Rattle.processor.specs.Laws.{EachReaction}
 use Rattle.processor.specs.Slots.{slot_at}

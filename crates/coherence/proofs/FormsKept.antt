@@ -21,7 +21,7 @@ use Rattle.message.specs.declared.figures.Figures.{Figures}
 use Rattle.message.specs.declared.kind.Kind.{Kind}
 use Rattle.message.specs.declared.kind.Kind.TheVariants as kind
 use Rattle.message.specs.declared.message.Message.{Message}
-use Rattle.processor.proofs.Tables.{put_read}
+use Rattle.message.proofs.Tables.{put_read}
 use Rattle.std.proofs.lemmas.Bool.{cond_both, both_ways, or_left, cases_Bool}
 use Rattle.std.proofs.lemmas.Bool.Decides.{nat_tests}
 use Rattle.coherence.proofs.FormsBuilt.{Well, Fits, as_row}

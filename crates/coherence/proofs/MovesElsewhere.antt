@@ -5,7 +5,7 @@ use Rattle.message.specs.Requests.{out}
 use Rattle.message.specs.declared.message.Message.{Message}
 use Rattle.message.specs.declared.reaction.Reaction.{Reaction}
 use Rattle.processor.proofs.Stamping.{clocks_go_on}
-use Rattle.processor.proofs.Tables.{put_read}
+use Rattle.message.proofs.Tables.{put_read}
 use Rattle.processor.specs.Inputs.{Input, Load, Store, Request, Ldio, Stio, Collect, GiveUp, Poll, Receive}
 use Rattle.processor.specs.Laws.{EachReaction}
 use Rattle.processor.specs.Lines.{line_at, block_of}

@@ -9,7 +9,7 @@ use Rattle.home.specs.declared.plan.Plan.TheVariants.{Ask}
 use Rattle.home.specs.Sets.{Processors}
 use Rattle.message.specs.Kinds.{kind_number}
 use Rattle.message.specs.declared.kind.Kind.{Kind}
-use Rattle.processor.proofs.Tables.{put_read}
+use Rattle.message.proofs.Tables.{put_read}
 use Rattle.coherence.proofs.FormsKept.{nobody_has}
 use Rattle.coherence.proofs.Counting.{indicator, indicator_most}
 

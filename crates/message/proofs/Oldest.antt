@@ -1,5 +1,5 @@
 -- What the search for the oldest of a pair finds.
-use Rattle.std.proofs.Common.{◌≡◌, ℕ, zero, suc, ◌+◌, ◌<◌, ◌≤◌, Bool, true, false, cond, List, [], ◌∷◌, length, get_or, take, Some, None, Option, sym, refl, ap, ◌∙◌, subst, ⊎_elim, arith}
+use Rattle.std.proofs.Common.{◌≡◌, ℕ, zero, suc, ◌+◌, ◌<◌, ◌≤◌, Bool, true, false, cond, List, [], ◌∷◌, length, get_or, take, Some, None, Option, sym, refl, ◌∙◌, subst, ⊎_elim, arith}
 use Rattle.std.proofs.lemmas.List.{length-take-le, get_or-take}
 use Rattle.std.proofs.lemmas.Option.{slice_get-get_or, slice_get_past}
 use Rattle.std.proofs.lemmas.Bool.{cases_lt, cond-true}
@@ -7,9 +7,6 @@ use Rattle.message.specs.Laws.{WaitsFor, OldestGoesFirst, OthersGo}
 use Rattle.message.specs.Messages.{no_message}
 use Rattle.message.specs.Pairs.{is_pair, goes_alike, first_alike, older_than, oldest_of_pair}
 use Rattle.message.specs.declared.message.Message.{Message}
-
-some_none : {A : Type 0} (P : Type 0) (x : A) → None ≡ Some x → P
-some_none P x e = let z : ◌≡◌ {A = ℕ} 0 1 = cc in absurd (omega arith)
 
 -- At place n of ns, and at none before, stands one that goes the way of m.
 record First (m : Message ℕ) (ns : List (Message ℕ)) (n : ℕ) : Type 0 where
@@ -25,7 +22,7 @@ first_on m x xs n f r = record { inside = let h = r.inside in omega arith; alike
     before (suc j) h = r.none_before j (omega arith)
 
 first_found : (m : Message ℕ) (xs : List (Message ℕ)) (i k : ℕ) → first_alike m xs i ≡ Some k → (n : ℕ) × (k ≡ i + n) × First m xs n
-first_found m [] i k e = some_none _ k e
+first_found m [] i k e = absurd (cc)
 first_found m (x ∷ xs) i k e = go (goes_alike x m) refl e (λ h. first_found m xs (i + 1) k h)
   where
     go : (b : Bool) → goes_alike x m ≡ b → cond b (Some i) (first_alike m xs (i + 1)) ≡ Some k
@@ -44,23 +41,23 @@ none_found m (x ∷ xs) i e j l = go (goes_alike x m) refl e (λ h. none_found m
     go : (b : Bool) → goes_alike x m ≡ b → cond b (Some i) (first_alike m xs (i + 1)) ≡ None
         → (first_alike m xs (i + 1) ≡ None → (j : ℕ) → j < length xs → goes_alike (get_or xs j no_message) m ≡ false)
         → (j : ℕ) → j < length (x ∷ xs) → goes_alike (get_or (x ∷ xs) j no_message) m ≡ false
-    go true a h r j l = some_none _ i (sym h)
+    go true a h r j l = absurd (cc)
     go false a h r zero l = a
     go false a h r (suc j) l = r h j (omega arith)
 
 at_place : (ms : List (Message ℕ)) (p : ℕ) → p < length ms → oldest_of_pair ms p ≡ older_than ms p (get_or ms p no_message)
-at_place ms p l = ap (λ (o : Option (Message ℕ)). elim o [ None ↦ None | Some m ↦ older_than ms p m ]) (slice_get-get_or ms p no_message l)
+at_place ms p l = rw (slice_get-get_or ms p no_message l, oldest_of_pair)
 
 past_place : (ms : List (Message ℕ)) (p : ℕ) → length ms ≤ p → oldest_of_pair ms p ≡ None
-past_place ms p l = ap (λ (o : Option (Message ℕ)). elim o [ None ↦ None | Some m ↦ older_than ms p m ]) (slice_get_past ms p l)
+past_place ms p l = rw (slice_get_past ms p l, oldest_of_pair)
 
 guarded : (b : Bool) (x : Option ℕ) (k : ℕ) → cond b x None ≡ Some k → (b ≡ true) × (x ≡ Some k)
 guarded true x k e = (refl, e)
-guarded false x k e = some_none _ k e
+guarded false x k e = absurd (cc)
 
 in_front : (ms : List (Message ℕ)) (p j : ℕ) (m : Message ℕ) (b : Bool) → j < p
     → goes_alike (get_or (take p ms) j no_message) m ≡ b → goes_alike (get_or ms j no_message) m ≡ b
-in_front ms p j m b l h = ap (λ (x : Message ℕ). goes_alike x m) (sym (get_or-take p ms j no_message l)) ∙ h
+in_front ms p j m b l h = rw (get_or-take p ms j no_message l) at h
 
 waits : (ms : List (Message ℕ)) (p k : ℕ) → p < length ms → oldest_of_pair ms p ≡ Some k → WaitsFor ms p k
 waits ms p k l e =
@@ -81,7 +78,7 @@ waits ms p k l e =
 
 pub oldest_goes_first : OldestGoesFirst
 oldest_goes_first ms p k e =
-    ⊎_elim (λ l. waits ms p k l e) (λ l. some_none _ k (sym (past_place ms p l) ∙ e)) (cases_lt p (length ms))
+    ⊎_elim (λ l. waits ms p k l e) (λ l. absurd (let none = past_place ms p l in cc)) (cases_lt p (length ms))
 
 pub others_go : OthersGo
 others_go ms p l e q j h =

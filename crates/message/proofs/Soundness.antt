@@ -1,8 +1,8 @@
 -- What a well-formed message is: the table's forms, then what each part of a form says.
-use Rattle.std.proofs.Common.{◌≡◌, ℕ, ◌<◌, ◌≤◌, Bool, true, false, eqb, ltb, Some, None, Option, refl, subst, ⊎_elim, arith}
+use Rattle.std.proofs.Common.{◌≡◌, ℕ, ◌<◌, ◌≤◌, Bool, true, false, eqb, ltb, Some, None, Option, refl, ⊎_elim, arith}
 use Rattle.ordering.specs.Clocks.{number_end}
 use Rattle.ordering.specs.declared.operation.Words.{Words}
-use Rattle.std.proofs.lemmas.Bool.{and_parts, ltb-true, eqb-true, both_ways, or_cases}
+use Rattle.std.proofs.lemmas.Bool.{and_parts, ltb-true, eqb-true, or_cases}
 use Rattle.std.proofs.lemmas.Bool.Decides.{nat_tests}
 use Rattle.message.specs.Checks.{end_fits, words_fit, numbers_fit, fits}
 use Rattle.message.specs.Forms.{form_of}
@@ -26,12 +26,7 @@ record Right (k : Kind) (o : Form) : Type 0 where
   mark : o.words ≡ Marked → k ≡ Ack
 
 form_right : (k : Kind) (x : Option Kind) (o : Form) → form_of k x ≡ Some o → Right k o
-form_right k None o e = record {
-  receiver = λ h. grind (arith, nat_tests);
-  sender = λ h. grind (arith, nat_tests);
-  mark = λ h. grind (arith, nat_tests);
-}
-form_right k (Some r) o e = record {
+form_right k x o e = record {
   receiver = λ h. grind (arith, nat_tests);
   sender = λ h. grind (arith, nat_tests);
   mark = λ h. grind (arith, nat_tests);
@@ -39,8 +34,7 @@ form_right k (Some r) o e = record {
 
 home_end : (f : Figures) (e : End) (n p : ℕ) → e ≡ Home → end_fits f e n p ≡ true → (n ≡ home_node p) × (p < 16)
 home_end f e n p q h =
-    let P : End → Type 0 = λ x. end_fits f x n p ≡ true in
-    let a = and_parts (ltb p 16) (eqb n (home_node p)) (subst P q h) in
+    let a = and_parts (ltb p 16) (eqb n (home_node p)) (rw q at h) in
     (eqb-true n (home_node p) a.1, ltb-true p 16 a.0)
 
 within : (n : Numbers) (c s : ℕ) → numbers_fit n c s ≡ true → (c ≤ number_end) × (s ≤ number_end)
@@ -56,7 +50,7 @@ marked Marked mark w h m = refl
 
 sound_at : (f : Figures) (m : Message ℕ) (x : Option Form) → form_of m.kind m.refused ≡ x
     → elim x [ None ↦ false | Some o ↦ fits f o m ] ≡ true → Sound m
-sound_at f m None e h = absurd (both_ways false refl h)
+sound_at f m None e h = absurd (cc)
 sound_at f m (Some o) e h =
     let r = form_right m.kind m.refused o e in
     let a = and_parts _ _ h in

@@ -99,6 +99,7 @@ impl Party {
 }
 
 /// The tables say, cell by cell, what the rule says in words.
+#[tactic(auto, using(crate::proofs::Cells::tables_in_words))]
 pub fn tables_are_in_words()
     ensures { TablesInWords }
 {}

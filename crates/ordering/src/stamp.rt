@@ -34,6 +34,7 @@ impl Stamp {
 
 /// Stamps are in a strict total order: none is below itself, below is transitive, and two of
 /// which neither is below the other are equal.
+#[tactic(auto, using(crate::proofs::Total::strict_total_order))]
 pub fn stamps_are_ordered()
     ensures { StrictTotalOrder }
 {}

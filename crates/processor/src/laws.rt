@@ -5,11 +5,13 @@ ghost use Rattle.processor.specs.Laws.{ClocksGoOn, EntriesAreStamped, AskedLines
 
 /// No reaction takes the clock back, and one that does an operation takes it on; after a message whose
 /// clock is passed, the global number is above it.
+#[tactic(auto, using(crate::proofs::Stamping::clocks_go_on))]
 pub fn clocks_go_on()
     ensures { ClocksGoOn }
 {}
 
 /// An operation is stamped with the clock after it, and carries its party's number.
+#[tactic(auto, using(crate::proofs::Stamping::entries_are_stamped))]
 pub fn entries_are_stamped()
     ensures { EntriesAreStamped }
 {}
@@ -20,6 +22,7 @@ pub fn asked_lines_give_way()
 {}
 
 /// A line that is held before and after a reaction keeps its words, unless the call stores to its block.
+#[tactic(auto, using(crate::proofs::Copies::only_stores_change_words))]
 pub fn only_stores_change_words()
     ensures { OnlyStoresChangeWords }
 {}
@@ -30,6 +33,7 @@ pub fn nack_only_ends()
 {}
 
 /// A slot that was given up stays taken until VALUE comes.
+#[tactic(auto, using(crate::proofs::Fetching::given_up_slots_stay_taken))]
 pub fn given_up_slots_stay_taken()
     ensures { GivenUpSlotsStayTaken }
 {}
@@ -40,6 +44,7 @@ pub fn own_operations_wait()
 {}
 
 /// What load, poll and collect tell is what was entered, stored or brought.
+#[tactic(auto, using(crate::proofs::Fetching::told_words_are_true))]
 pub fn told_words_are_true()
     ensures { ToldWordsAreTrue }
 {}

@@ -1,7 +1,6 @@
 -- Adding one entry's values to the control sum of those before it.
-use Rattle.std.proofs.Common.{◌≡◌, ℕ, ◌+◌, ◌%◌, ◌^◌, ◌<◌, ◌≤◌, List, length, get_or, take, sum_by, sym, ap, ◌∙◌}
+use Rattle.std.proofs.Common.{◌≡◌, ℕ, ◌+◌, ◌%◌, ◌^◌, ◌<◌, List, length, get_or, take, sum_by, sym, ap, ◌∙◌}
 use native.Mathlib.Nat.{mod-add-mod}
-use Rattle.std.proofs.lemmas.List.{take_all}
 use Rattle.std.proofs.lemmas.List.Sums.{sum_by_more}
 use Rattle.trail.specs.Sums.{words_sum, control_sum}
 use Rattle.trail.specs.declared.entry.Entry.{Entry}
@@ -14,6 +13,3 @@ pub control_sum_more : (trail : List Entry) (n : ℕ) (d : Entry) → n < length
 control_sum_more trail n d h =
     mod-add-mod (sum_by values_sum (take n trail)) (2 ^ 32) (values_sum (get_or trail n d))
     ∙ sym (ap (λ (k : ℕ). k % 2 ^ 32) (sum_by_more values_sum trail n d h))
-
-pub control_sum_all : (trail : List Entry) (n : ℕ) → length trail ≤ n → control_sum (take n trail) ≡ control_sum trail
-control_sum_all trail n h = ap control_sum (take_all n trail h)

@@ -1,8 +1,8 @@
 -- The write that `latest` chooses is the greatest-stamped one below, and the first of those.
 use Rattle.std.proofs.Common.{◌≡◌, ℕ, zero, suc, ◌+◌, ◌<◌, Bool, true, false, cond, List, [], ◌∷◌, Some, None, Option, sym, refl, ap, ◌∙◌, arith}
+use Rattle.ordering.proofs.Total.{strict_total_order}
 use Rattle.ordering.specs.Stamps.{below}
 use Rattle.ordering.specs.declared.stamp.Stamp.{Stamp}
-use Rattle.std.proofs.lemmas.Bool.{both_ways}
 use Rattle.std.proofs.lemmas.Bool.Decides.{nat_tests}
 use Rattle.std.specs.List.{slice_get}
 use Rattle.trail.proofs.Choice.{falls}
@@ -12,14 +12,8 @@ use Rattle.trail.specs.declared.address.Address.{Address}
 use Rattle.trail.specs.declared.entry.Entry.{Entry}
 use Rattle.trail.specs.declared.source.Candidate.{Candidate}
 
-irreflexive : (s : Stamp) → below s s ≡ false
-irreflexive s = grind (arith, nat_tests)
-
 asymmetric : (s t : Stamp) → below s t ≡ true → below t s ≡ false
 asymmetric s t h = grind (arith, nat_tests)
-
-same_entry : (e f : Entry) → Some e ≡ Some f → f ≡ e
-same_entry e f h = cc
 
 module _ (a : Address) (s : Stamp) where
   abbrev Nowhere : List Entry → Type 0
@@ -46,7 +40,7 @@ module _ (a : Address) (s : Stamp) where
   passed_over n e es no_write None law = nowhere
     where
       nowhere : Nowhere (e ∷ es)
-      nowhere zero f h = ap (writes_below a s) (same_entry e f h) ∙ no_write
+      nowhere zero f h = cc
       nowhere (suc m) f h = law m f h
   passed_over n e es no_write (Some c) law = record {
     place = suc law.place;
@@ -61,11 +55,11 @@ module _ (a : Address) (s : Stamp) where
   }
     where
       greatest : (m : ℕ) (f : Entry) → slice_get (e ∷ es) m ≡ Some f → writes_below a s f ≡ true → below law.write.stamp f.stamp ≡ false
-      greatest zero f h w = absurd (both_ways (writes_below a s e) no_write (ap (writes_below a s) (sym (same_entry e f h)) ∙ w))
+      greatest zero f h w = absurd (cc)
       greatest (suc m) f h w = law.greatest m f h w
 
       first : (m : ℕ) (f : Entry) → m < suc law.place → slice_get (e ∷ es) m ≡ Some f → writes_below a s f ≡ true → below f.stamp law.write.stamp ≡ true
-      first zero f l h w = absurd (both_ways (writes_below a s e) no_write (ap (writes_below a s) (sym (same_entry e f h)) ∙ w))
+      first zero f l h w = absurd (cc)
       first (suc m) f l h w = law.first m f (omega arith) h w
 
   abbrev offered : ℕ → Entry → Candidate
@@ -87,7 +81,7 @@ module _ (a : Address) (s : Stamp) where
   }
     where
       greatest : (m : ℕ) (f : Entry) → slice_get (e ∷ es) m ≡ Some f → writes_below a s f ≡ true → below e.stamp f.stamp ≡ false
-      greatest zero f h w = ap (λ (g : Entry). below e.stamp g.stamp) (same_entry e f h) ∙ irreflexive e.stamp
+      greatest zero f h w = let none = strict_total_order.irreflexive e.stamp in cc
       greatest (suc m) f h w = above m f h w
 
   -- an entry that a later one is above
@@ -105,19 +99,19 @@ module _ (a : Address) (s : Stamp) where
   }
     where
       over : below e.stamp law.write.stamp ≡ true
-      over = ap (below e.stamp) (sym law.stamp) ∙ up
+      over = cc
 
       greatest : (m : ℕ) (f : Entry) → slice_get (e ∷ es) m ≡ Some f → writes_below a s f ≡ true → below law.write.stamp f.stamp ≡ false
-      greatest zero f h w = ap (λ (g : Entry). below law.write.stamp g.stamp) (same_entry e f h) ∙ asymmetric e.stamp law.write.stamp over
+      greatest zero f h w = let back = asymmetric e.stamp law.write.stamp over in cc
       greatest (suc m) f h w = law.greatest m f h w
 
       first : (m : ℕ) (f : Entry) → m < suc law.place → slice_get (e ∷ es) m ≡ Some f → writes_below a s f ≡ true → below f.stamp law.write.stamp ≡ true
-      first zero f l h w = ap (λ (g : Entry). below g.stamp law.write.stamp) (same_entry e f h) ∙ over
+      first zero f l h w = cc
       first (suc m) f l h w = law.first m f (omega arith) h w
 
   chosen_over : (n : ℕ) (e : Entry) (es : List Entry) → writes_below a s e ≡ true → (r : Option Candidate) → Law (n + 1) es r
       → Law n (e ∷ es) (later (Some (offered n e)) r)
-  chosen_over n e es is_write None law = keeps n e es is_write (λ m f h w. absurd (both_ways (writes_below a s f) (law m f h) w))
+  chosen_over n e es is_write None law = keeps n e es is_write (λ m f h w. absurd (let no = law m f h in cc))
   chosen_over n e es is_write (Some c) law = go (below e.stamp c.stamp) refl
     where
       go : (up : Bool) → below e.stamp c.stamp ≡ up → Law n (e ∷ es) (cond up (Some c) (Some (offered n e)))
@@ -125,7 +119,7 @@ module _ (a : Address) (s : Stamp) where
       go false up = keeps n e es is_write (λ m f h w. falls e.stamp law.write.stamp f.stamp (ap (below e.stamp) (sym law.stamp) ∙ up) (law.greatest m f h w))
 
   chosen : (n : ℕ) (es : List Entry) → Law n es (latest a s n es)
-  chosen n [] = λ m e h. absurd (let z : ◌≡◌ {A = ℕ} 0 1 = cc in omega arith)
+  chosen n [] = λ m e h. absurd (cc)
   chosen n (e ∷ es) = go (writes_below a s e) refl (chosen (n + 1) es)
     where
       go : (w : Bool) → writes_below a s e ≡ w → Law (n + 1) es (latest a s (n + 1) es)

@@ -65,6 +65,7 @@ impl Entry {
 }
 
 /// An entry covers the addresses of its words, with its values there, and no others.
+#[tactic(auto, using(crate::proofs::Covering::covers_own_words))]
 pub fn entries_cover_their_words()
     ensures { CoversOwnWords }
 {}

@@ -68,6 +68,7 @@ fn later(first: Option<Candidate>, second: Option<Candidate>) -> Option<Candidat
     }
 }
 
+#[tactic(auto, using(crate::proofs::Choice::latest_more))]
 fn latest(trail: &[Entry], address: Address, reader: Stamp) -> Option<Candidate>
     ensures { result ≡ latest address reader 0 trail.now }
 {
@@ -95,6 +96,7 @@ pub fn source(trail: &[Entry], entry: usize, word: u32) -> Result<Option<(usize,
 
 /// A source is a write that covers the address, below the reader and with no greater such write, the first of equal
 /// ones; there is none exactly where there is no such write.
+#[tactic(auto, using(crate::proofs::Latest::latest_write))]
 pub fn sources_are_latest()
     ensures { LatestWrite }
 {}

@@ -15,6 +15,7 @@ fn words_sum(words: Words) -> u64
 }
 
 /// All values of all entries, added modulo 2^32.
+#[tactic(auto, using(crate::proofs::Adding::control_sum_more))]
 pub fn control_sum(trail: &[Entry]) -> u32
     ensures { result ≡ control_sum trail.now }
 {
