@@ -49,10 +49,6 @@ module _ {X : Type 0} (p : X → Bool) where
       at_drop_more count xs i d within ∙ count_cons (get_or xs i d) (drop (i + 1) xs) in
       omega (arith, count_append (take i xs) (drop i xs), count_append (take i xs) (drop (i + 1) xs))
 
-  -- whatever stands at a place is counted
-  pub count_at : (xs : List X) (i : ℕ) (d : X) → i < length xs → indicator (p (get_or xs i d)) ≤ count xs
-  count_at xs i d within = omega (arith, count_removed xs i d within)
-
   pub count_nth : (xs : List X) (i : ℕ) (x : X) → slice_get xs i ≡ Some x → indicator (p x) ≤ count xs
   unfolding count
   count_nth [] i x at = absurd (nowhere i x at)

@@ -1,16 +1,10 @@
 -- What a list of messages is once one is taken out, and once an outbox is emptied into it.
-use Rattle.std.proofs.Common.{◌≡◌, ℕ, ◌+◌, ◌-◌, ◌<◌, ◌≤◌, ltb, List as Seq, [], ◌∷◌, ◌++◌, length, get_or, drop, Some, None, Option, sym, ap, ◌∙◌, subst, add-one, arith, drop-cons, lt-ltb}
-use Rattle.list.specs.Contents.{pushed, removed}
+use Rattle.std.proofs.Common.{◌≡◌, ℕ, ◌+◌, ◌<◌, ◌≤◌, ltb, List as Seq, [], ◌∷◌, ◌++◌, length, get_or, drop, Some, None, Option, sym, ap, ◌∙◌, subst, add-one, arith, drop-cons, lt-ltb}
+use Rattle.list.specs.Contents.{pushed}
 use Rattle.message.specs.Reactions.{gathered}
 use Rattle.message.specs.declared.message.Message.{Message}
-use Rattle.std.proofs.lemmas.List.{append_assoc, append-nil, drop_all, length-append, length-drop, length-take}
+use Rattle.std.proofs.lemmas.List.{append_assoc, append-nil, drop_all, length-append}
 use Rattle.std.proofs.lemmas.Bool.{cond-true}
-
-pub one_less : {T : Type 0} (xs : Seq T) (i : ℕ) → i < length xs → length xs - 1 ≡ length (removed xs i)
-one_less xs i h = simp (length-append, length-take, length-drop) (omega arith)
-
-pub none_less : {T : Type 0} (xs : Seq T) (i : ℕ) → length xs ≤ i → length xs ≡ length (removed xs i)
-none_less xs i h = simp (length-append, length-take, length-drop) (omega arith)
 
 -- xs waits, os from place i on is still to be sent, all is what will wait.
 module _ (xs all : Seq (Message ℕ)) (os : Seq (Option (Message ℕ))) (i cap : ℕ) (inside : i < length os)

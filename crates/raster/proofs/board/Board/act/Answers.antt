@@ -1,6 +1,5 @@
 use Rattle.std.proofs.Common.{rules}
 use Rattle.bridge.specs.Reactions.{act}
-use Rattle.bridge.specs.States.{view}
 use Rattle.coherence.specs.declared.call.Call.TheVariants.{Act}
 use Rattle.raster.proofs.Lifting.{first_wish, second_wish}
 use Rattle.raster.proofs.board.Board.act.Goals as goal

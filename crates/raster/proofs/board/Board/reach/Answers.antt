@@ -1,6 +1,5 @@
 use Rattle.std.proofs.Common.{rules}
 use Rattle.bridge.specs.Reactions.{receive}
-use Rattle.bridge.specs.States.{view}
 use Rattle.coherence.specs.declared.call.Call.TheVariants.{Deliver}
 use Rattle.raster.proofs.Lifting.{first_rule, second_rule}
 use Rattle.raster.proofs.board.Board.reach.Goals as goal
