@@ -33,10 +33,10 @@ use Rattle.coherence.proofs.BalanceHomes.{home_number}
 use Rattle.coherence.proofs.BalanceProcessors as processors
 use Rattle.coherence.proofs.Carrying.{Balanced, carries, done_as, is_block_request, next_number, serves}
 use Rattle.coherence.proofs.Clocks.{Shape}
-use Rattle.coherence.proofs.Counting.{indicator, count, count_append, count_none, count_removed, none_counted}
+use Rattle.coherence.proofs.Counting.{indicator, count, count_append, count_none, count_removed, count_set, none_counted}
 use Rattle.coherence.proofs.FormsBuilt.{Well, as_back}
 use Rattle.coherence.proofs.Meeting.{Goes, Meets, at_call, at_first_wish, at_second_wish, to_processor, to_home, to_first, to_second}
-use Rattle.coherence.proofs.Posting.{processor_posts, bridge_posts, count_listed, count_posted, count_set}
+use Rattle.coherence.proofs.Posting.{processor_posts, bridge_posts, count_listed, count_posted}
 use Rattle.coherence.proofs.Rising.{all_from_nth}
 use Rattle.coherence.proofs.SlotsKept.{refuses_requests}
 use Rattle.coherence.proofs.Stepping.{after}

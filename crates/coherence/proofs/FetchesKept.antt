@@ -18,6 +18,7 @@ use Rattle.ordering.specs.declared.order.Access.{Access}
 use Rattle.processor.specs.Slots.{slot_at, is_awaited}
 use Rattle.std.proofs.lemmas.Bool.{both_ways, and_parts, eqb-true}
 use Rattle.std.proofs.lemmas.Bool.Decides.{nat_tests}
+use Rattle.std.proofs.lemmas.Option.{same_Some}
 use Rattle.trail.specs.declared.entry.Entry.{Entry}
 use Rattle.coherence.proofs.Arising.{never}
 use Rattle.coherence.proofs.Carrying.{carries, serves, entry_access, carried_access}
@@ -27,7 +28,6 @@ use Rattle.coherence.proofs.Errands.{Errands, Does, on_memory, on_own, delivered
 use Rattle.coherence.proofs.Growing.{now_on, stamped_now, trail_either, messages_either}
 use Rattle.coherence.proofs.Orderly.{is_memory, fetches, reaches, asks_about, gathers_for, now, requests_at, InLine, Known}
 use Rattle.coherence.proofs.Recording.{grown}
-use Rattle.coherence.proofs.Rising.{same_element}
 use Rattle.coherence.proofs.Seats.{seat}
 use Rattle.coherence.proofs.Settling.{io_seat, past_at, seated_at}
 use Rattle.coherence.proofs.Slots.{awaits}
@@ -160,7 +160,7 @@ module _ {A B : Type 0} (ma : Meaning A) (mb : Meaning B) (f : Figures) (c : Cal
           omega arith
       go (inr now_sent) (inr new) =
           let b = runs.values p d small two m now_sent value in
-          let same = ap (λ (x : Entry). x.stamp.global) (same_element y b.entry (sym new ∙ b.does)) in
+          let same = ap (λ (x : Entry). x.stamp.global) (same_Some y b.entry (sym new ∙ b.does)) in
           let clock : m.clock ≡ b.entry.stamp.global = b.clock in
           omega arith
 

@@ -1,26 +1,26 @@
 -- What follows from the balance of numbered operations: no two entries have one party and number.
 use Rattle.std.proofs.Common.{◌≡◌, ℕ, zero, suc, ◌≤◌, Bool, true, eqb, ltb, List, [], ◌∷◌, Some, sym, refl, ap, arith}
 use Rattle.std.proofs.lemmas.Bool.{and_from, eq-eqb}
+use Rattle.std.proofs.lemmas.Option.{none-some, same_Some}
 use Rattle.std.specs.List.{slice_get}
 use Rattle.trail.specs.declared.entry.Entry.{Entry}
 use Rattle.coherence.proofs.Carrying.{Balanced, done_as, next_number}
 use Rattle.coherence.proofs.Counting.{indicator, count, count_cons, count_nth, indicator_most}
-use Rattle.coherence.proofs.Rising.{nowhere, same_element}
 use Rattle.coherence.specs.Worlds.{World}
 
 module _ {X : Type 0} (p : X → Bool) where
   -- where at most one passes, two places that pass are one
   pub only_place : (xs : List X) → count p xs ≤ 1 → (i j : ℕ) (x y : X) → slice_get xs i ≡ Some x → slice_get xs j ≡ Some y → p x ≡ true → p y ≡ true → i ≡ j
-  only_place [] most i j x y at there one two = absurd (nowhere i x at)
+  only_place [] most i j x y at there one two = absurd (none-some x at)
   only_place (z ∷ xs) most zero zero x y at there one two = refl
   only_place (z ∷ xs) most zero (suc j) x y at there one two =
-      let here = ap (λ u. indicator (p u)) (same_element z x at) in
+      let here = ap (λ u. indicator (p u)) (same_Some z x at) in
       let first = ap indicator one in
       let later = count_nth p xs j y there in
       let second = ap indicator two in
       absurd (omega (arith, count_cons p z xs))
   only_place (z ∷ xs) most (suc i) zero x y at there one two =
-      let here = ap (λ u. indicator (p u)) (same_element z y there) in
+      let here = ap (λ u. indicator (p u)) (same_Some z y there) in
       let first = ap indicator two in
       let later = count_nth p xs i x at in
       let second = ap indicator one in

@@ -15,6 +15,7 @@ use Rattle.processor.specs.declared.line.Line.TheVariants.{Invalid, Shared, Excl
 use Rattle.std.proofs.ByRecursion.{all-has, All-weaker}
 use Rattle.std.proofs.lemmas.List.{get_or-set_other, get_or-set_same, length-set}
 use Rattle.std.proofs.lemmas.Bool.{and_from, and_left, both_ways, cases_Bool, cases_eq, eq-eqb, eqb-true, ltb-true, ne_eqb, or_cases}
+use Rattle.std.proofs.lemmas.Option.{same_Some}
 use Rattle.std.specs.List.{ContainsAt as Has, AllByRecursion as All}
 use Rattle.trail.specs.Addresses.{covers}
 use Rattle.trail.specs.declared.address.Address.{Address}
@@ -26,7 +27,6 @@ use Rattle.coherence.proofs.Counting.{none_passes}
 use Rattle.coherence.proofs.DeviceWords.{address}
 use Rattle.coherence.proofs.Moves.{Loads, Operates, Stores}
 use Rattle.coherence.proofs.Reading.{Reads, current, current_kept, current_push}
-use Rattle.coherence.proofs.Rising.{same_element}
 use Rattle.coherence.proofs.Shifts.{put_here, put_there}
 use Rattle.coherence.proofs.Sole.{no_data, sole}
 use Rattle.coherence.proofs.Tokens.{Tokens, held, owned}
@@ -147,7 +147,7 @@ module _ (b : ℕ) (start : Address → ℕ) (x y : Block) (v : Values b start x
         copy : (q : ℕ) (vs : Words) → (eqb p q ≡ true) ⊎ (eqb p q ≡ false) → held_words (y.line q) ≡ Some vs → Says (now b start y.trail) vs
         copy q vs (inl same) is =
             let line : y.line q ≡ Exclusive (with_word ws w n) = ap y.line (sym (eqb-true p q same)) ∙ here in
-            let words : with_word ws w n ≡ vs = same_element (with_word ws w n) vs (sym (ap held_words line) ∙ is) in
+            let words : with_word ws w n ≡ vs = same_Some (with_word ws w n) vs (sym (ap held_words line) ∙ is) in
             subst (Says (now b start y.trail)) words rewritten
         copy q vs (inr apart) is =
             let none : held (x.line q) ≡ 0 = sole x t p owns q (λ s. both_ways (eqb p q) apart (eq-eqb p q s)) in
