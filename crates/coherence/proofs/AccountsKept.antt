@@ -31,9 +31,9 @@ use Rattle.coherence.proofs.BalanceProcessors as processors
 use Rattle.coherence.proofs.Carrying.{Accounted, carries, carried_access, entry_access, issued_as, next_number}
 use Rattle.coherence.proofs.Clocks.{Shape}
 use Rattle.coherence.proofs.Counting.{all_removed}
+use Rattle.coherence.proofs.FormsBuilt.{refuses_requests}
 use Rattle.coherence.proofs.Meeting.{Asks, Goes, Meets, at_call, at_first_wish, at_second_wish, to_processor, to_home, to_first, to_second}
 use Rattle.coherence.proofs.Posting.{bridge_posts, posted, processor_posts}
-use Rattle.coherence.proofs.SlotsKept.{refuses_requests}
 use Rattle.coherence.proofs.Stepping.{after}
 use Rattle.coherence.proofs.Timing.{came_so}
 use Rattle.coherence.specs.Histories.{Issued, issues, wish_access}

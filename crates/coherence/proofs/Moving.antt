@@ -29,7 +29,7 @@ use Rattle.coherence.proofs.Blocks.{Block, block, about, on, request_out}
 use Rattle.coherence.proofs.Carrying.{is_block_request}
 use Rattle.coherence.proofs.Clocks.{Shape}
 use Rattle.coherence.proofs.Forms.{HomesWell}
-use Rattle.coherence.proofs.FormsBuilt.{Well, as_row, as_back}
+use Rattle.coherence.proofs.FormsBuilt.{Well, as_row, as_back, refuses_requests}
 use Rattle.coherence.proofs.Meeting.{Asks, Meets, at_call, at_first_wish, at_second_wish, to_processor, to_home, to_first, to_second}
 use Rattle.coherence.proofs.Moves.{Passes, once, rests, OutPut}
 use Rattle.coherence.proofs.MovesBridges as bridges
@@ -39,7 +39,7 @@ use Rattle.coherence.proofs.MovesHomes.{sends_elsewhere, enters_elsewhere}
 use Rattle.coherence.proofs.MovesOwnHome.{home_moves}
 use Rattle.coherence.proofs.Phases.{busy_gathering}
 use Rattle.coherence.proofs.Posts.{kept_added, kept_still}
-use Rattle.coherence.proofs.SlotsKept.{Tabled, refuses_requests}
+use Rattle.coherence.proofs.SlotsKept.{Tabled}
 use Rattle.coherence.proofs.Stepping.{after}
 use Rattle.coherence.proofs.Wishes.{Lawful}
 use Rattle.coherence.specs.Steps.{Effect, by_home, by_first, by_second, figures, waiting}

@@ -16,7 +16,7 @@ use Rattle.message.specs.declared.message.Message.{Message}
 use Rattle.processor.specs.Receive as processor
 use Rattle.processor.specs.Slots.{is_awaited, slot_at}
 use Rattle.processor.specs.declared.state.Processor.{Processor}
-use Rattle.std.proofs.lemmas.Bool.{or_from, and_parts, eqb-true, leb-true, ne_eqb, lt-ltb, ltb-true, or_cases}
+use Rattle.std.proofs.lemmas.Bool.{and_parts, eqb-true, leb-true, ne_eqb, lt-ltb, ltb-true, or_cases}
 use Rattle.coherence.proofs.Blocks.{peer, token}
 use Rattle.coherence.proofs.Rules.{value_ruled}
 
@@ -48,9 +48,6 @@ owner_nodes f n p is = grind arith
 
 pub owner_device : (f : Figures) (n p : ℕ) → end_fits f Owner n p ≡ true → is_device n ≡ true
 owner_device f n p is = grind arith
-
-pub no_device : (n : ℕ) → n < 4 → is_device n ≡ false
-no_device n small = or_from (eqb n 4) (eqb n 5) (ne_eqb n 4 (λ is. omega arith)) (ne_eqb n 5 (λ is. omega arith))
 
 -- VALUE from a device finds its slot
 pub fetches : (s : Processor ℕ) (n d : ℕ) → d < 2 → (v c : ℕ) → n ≡ device_node d → is_awaited (slot_at s.slots d) ≡ true → is_some (processor.fetched_from s n v c) ≡ true

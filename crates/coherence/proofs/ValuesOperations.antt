@@ -21,8 +21,8 @@ use Rattle.trail.specs.Addresses.{covers}
 use Rattle.trail.specs.declared.address.Address.{Address}
 use Rattle.trail.specs.declared.entry.Entry.{Entry}
 use Rattle.coherence.proofs.Arising.{never}
-use Rattle.coherence.proofs.Blocks.{Block, Posted, all_from_has, hits, peer, pending, pending_is, token}
-use Rattle.coherence.proofs.Bounds.{posted_none}
+use Rattle.coherence.proofs.Blocks.{Block, all_from_has, hits, peer, pending, pending_is, token}
+use Rattle.coherence.proofs.Bounds.{posted_same}
 use Rattle.coherence.proofs.Counting.{none_passes}
 use Rattle.coherence.proofs.DeviceWords.{address}
 use Rattle.coherence.proofs.Moves.{Loads, Operates, Stores}
@@ -97,16 +97,13 @@ module _ (p w c : ℕ) (e : Entry) where
       same (inr apart) = ne_eqb (4 * b + i) w (λ is. apart (omega arith)) ∙ sym (ne_eqb i (w % 4) apart)
 
 module _ (b : ℕ) (start : Address → ℕ) (x y : Block) (v : Values b start x) where
-  still : y.messages ≡ x.messages → Posted x.messages [] [] y.messages
-  still same = subst (λ (ms : List (Message ℕ)). Posted x.messages [] [] ms) (sym same) (posted_none x.messages)
-
   module _ (p w : ℕ) (ws : Words) (e : Entry) (r : Loads b x y p w ws e) where
     pub loads_values : Values b start y
     loads_values =
         valued_still (now b start x.trail) (now b start y.trail) y.line y.home y.messages
         (λ i _. now_kept b start x.trail y.trail e (ap is_write r.entry.operation) r.trail i)
         (valued_on _ x y [] [] v r.lines (ap (λ (h : Home ℕ). h.words) r.home)
-        (ap (λ (h : Home ℕ). length (round_of h.directory).request.words.at) r.home ∙ v.request_four) (still r.messages) tt tt tt)
+        (ap (λ (h : Home ℕ). length (round_of h.directory).request.words.at) r.home ∙ v.request_four) (posted_same x.messages y.messages r.messages) tt tt tt)
 
     pub loads_reads : Reads (current start x.trail) e
     loads_reads = loads_read p w (x.clock p) e b start x.trail ws r.word (v.copies p ws r.held) r.entry
