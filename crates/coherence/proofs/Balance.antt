@@ -1,5 +1,5 @@
 -- Every call keeps the balance of numbered operations: each is done once, carried once or served once.
-use Rattle.std.proofs.Common.{◌≡◌, ℕ, ◌+◌, ◌<◌, ◌≤◌, Bool, true, false, cond, ◌&&◌, eqb, ltb, ◌⊎◌, List, ◌++◌, length, get_or, set, Some, None, Option, sym, refl, ap, subst, inl, inr, arith}
+use Rattle.std.proofs.Common.{◌≡◌, ℕ, ◌+◌, ◌<◌, ◌≤◌, Bool, true, false, cond, ◌&&◌, eqb, ltb, ◌⊎◌, List, ◌++◌, length, get_or, set, Some, None, sym, refl, ap, subst, inl, inr, arith}
 use Rattle.bridge.specs.Inputs as bridge
 use Rattle.bridge.specs.declared.state.Bridge.{Bridge}
 use Rattle.device.specs.Meaning.{Meaning}
@@ -7,16 +7,11 @@ use Rattle.home.specs.Homes.{new_home}
 use Rattle.home.specs.Reactions.{received}
 use Rattle.home.specs.declared.machine.Home.{Home}
 use Rattle.list.specs.Contents.{removed}
-use Rattle.message.proofs.Numbering.{numbers_tell_kinds}
-use Rattle.message.specs.Checks.{fits}
-use Rattle.message.specs.Forms.{form_of, row, returned}
-use Rattle.message.specs.Kinds.{is_request, same_kind}
 use Rattle.message.specs.Messages.{no_message}
 use Rattle.message.specs.Nodes.{device_node, home_node}
 use Rattle.message.specs.Reactions.{sent}
 use Rattle.message.specs.declared.figures.Figures.{Figures}
 use Rattle.message.specs.declared.kind.Kind.{Kind}
-use Rattle.message.specs.declared.kind.Kind.TheVariants as kind
 use Rattle.message.specs.declared.message.Message.{Message}
 use Rattle.message.specs.declared.reaction.Reaction.{Reaction}
 use Rattle.processor.specs.Inputs as processor
@@ -24,7 +19,7 @@ use Rattle.processor.specs.States.{made}
 use Rattle.processor.specs.declared.state.Processor.{Processor}
 use Rattle.std.proofs.ByRecursion.{All-map}
 use Rattle.std.proofs.lemmas.List.{get_or-replicate, get_or-set_other, get_or-set_same}
-use Rattle.std.proofs.lemmas.Bool.{both_ways, cases_eq, cond_both, eq-eqb, lt-ltb, ltb-true, le-ltb, ne_eqb}
+use Rattle.std.proofs.lemmas.Bool.{cases_eq, cond_both, eq-eqb, lt-ltb, ltb-true, le-ltb, ne_eqb}
 use Rattle.std.proofs.lemmas.Bool.Decides.{nat_tests}
 use Rattle.std.specs.List.{range_with_len}
 use Rattle.std.specs.Option.{option_to_list}
@@ -44,14 +39,6 @@ use Rattle.coherence.specs.Makings.{Making, block_words, make}
 use Rattle.coherence.specs.Steps.{Effect, figures, by_processor, by_home, by_first, by_second, waiting}
 use Rattle.coherence.specs.Worlds.{World, processor_at, home_at, with_processor, with_first, with_second, no_processor, no_home}
 use Rattle.coherence.specs.declared.call.Call.{Call}
-
--- only a NACK refuses
-pub nack_refuses : (f : Figures) (m : Message ℕ) → Well f m → (k : Kind) → m.refused ≡ Some k → m.kind ≡ kind.Nack
-nack_refuses f m well k is = go (same_kind m.kind kind.Nack) refl (subst (λ (o : Option Kind). elim (form_of m.kind o) [ None ↦ false | Some o ↦ fits f o m ] ≡ true) is well)
-  where
-    go : (x : Bool) → same_kind m.kind kind.Nack ≡ x → elim (cond (x && is_request k) (Some (returned (row k))) None) [ None ↦ false | Some o ↦ fits f o m ] ≡ true → m.kind ≡ kind.Nack
-    go true e h = numbers_tell_kinds m.kind kind.Nack e
-    go false e h = absurd (both_ways false refl h)
 
 -- no block request is given back to a processor
 pub processor_refused : (f : Figures) (m : Message ℕ) → Well f m → m.receiver < 4 → (k : Kind) → m.refused ≡ Some k → is_block_request k ≡ false
