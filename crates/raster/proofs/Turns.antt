@@ -48,6 +48,18 @@ module _ {A B : Type 0} (ma : Meaning A) (mb : Meaning B) where
       let more = ap (answers_of ma mb w) (take_more cs i d h) ∙ answers_push w (take i cs) (get_or cs i d) in
       sym (ap (overlaid was) more ∙ overlaid_more was now new ∙ ap (λ (n : ℕ). set (overlaid was now) n new) long)
 
+  -- a call made on the world so far, its answer written behind those so far
+  pub turn : (start : World A B) (cs : List Call) (i : ℕ) (d : Call) (was so_far : List Answer) (w v : World A B) (r : Answer) → i < length cs
+      → (r, v) ≡ step ma mb (get_or cs i d) w
+      → w ≡ world_after ma mb start (take i cs) → so_far ≡ overlaid was (answers_of ma mb start (take i cs))
+      → (v ≡ world_after ma mb start (take (i + 1) cs)) × (set so_far i r ≡ overlaid was (answers_of ma mb start (take (i + 1) cs)))
+  turn start cs i d was so_far w v r h made at told = rw told
+      (ap (λ (o : Answer × World A B). o.1) here ∙ world_more start cs i d h,
+      ap (λ (o : Answer × World A B). set (overlaid was (answers_of ma mb start (take i cs))) i o.0) here ∙ answers_more start cs i d was h)
+    where
+      here : (r, v) ≡ step ma mb (get_or cs i d) (world_after ma mb start (take i cs))
+      here = made ∙ ap (step ma mb (get_or cs i d)) at
+
   after_world : (h : History A B) (cs : List Call) → (after_calls ma mb h cs).world ≡ world_after ma mb h.world cs
   after_world h [] = refl
   after_world h (c ∷ cs) =
