@@ -53,9 +53,10 @@ module _ {A B : Type 0} (ma : Meaning A) (mb : Meaning B) where
       → (r, v) ≡ step ma mb (get_or cs i d) w
       → w ≡ world_after ma mb start (take i cs) → so_far ≡ overlaid was (answers_of ma mb start (take i cs))
       → (v ≡ world_after ma mb start (take (i + 1) cs)) × (set so_far i r ≡ overlaid was (answers_of ma mb start (take (i + 1) cs)))
-  turn start cs i d was so_far w v r h made at told = rw told
-      (ap (λ (o : Answer × World A B). o.1) here ∙ world_more start cs i d h,
-      ap (λ (o : Answer × World A B). set (overlaid was (answers_of ma mb start (take i cs))) i o.0) here ∙ answers_more start cs i d was h)
+  turn start cs i d was so_far w v r h made at told = rw told (
+    ap (λ (o : Answer × World A B). o.1) here ∙ world_more start cs i d h,
+    ap (λ (o : Answer × World A B). set (overlaid was (answers_of ma mb start (take i cs))) i o.0) here ∙ answers_more start cs i d was h,
+  )
     where
       here : (r, v) ≡ step ma mb (get_or cs i d) (world_after ma mb start (take i cs))
       here = made ∙ ap (step ma mb (get_or cs i d)) at
