@@ -2,4 +2,3 @@ pub mod Lifting
 pub mod Planning
 pub mod Posting
 pub mod Turns
-pub mod Worlds

@@ -62,7 +62,6 @@ fn fits(processors: u32, clock: u32, words: usize, first: u32, second: u32) -> b
 }
 
 impl<A: Device, B: Device> Board<A, B> {
-    #[tactic(auto, using(crate::proofs::Worlds::same_world))]
     /// A board with all clocks at `clock` and the words in its homes; both lists are emptied.
     pub fn make(
         processors: u32,

@@ -45,7 +45,6 @@ pub(crate) fn check_room(
 }
 
 // Adds what is sent, in its order.
-#[tactic(auto, using(crate::proofs::Posting::all_sent))]
 fn send_all(messages: &mut List<Message>, outbox: Outbox)
     requires { length (contents messages.old) + sent_count outbox ≤ room messages.old }
     ensures contents { contents messages.new ≡ contents messages.old ++ sent outbox }
