@@ -1,18 +1,19 @@
 -- What was issued accounts for all that is done and under way, after an effect: from what the effect adds.
-use Rattle.std.proofs.Common.{◌≡◌, ℕ, zero, suc, ◌<◌, ◌≤◌, List, [], ◌∷◌, ◌++◌, Some, None, Option, sym, refl, ap, subst, arith}
+use Rattle.std.proofs.Common.{◌≡◌, ℕ, ◌<◌, ◌≤◌, List, [], ◌++◌, Some, None, Option, sym, refl, ap, subst, arith}
 use Rattle.message.specs.Reactions.{sent}
 use Rattle.message.specs.declared.message.Message.{Message}
 use Rattle.message.specs.declared.reaction.Outbox.{Outbox}
 use Rattle.std.proofs.ByRecursion.{All-append, All-push, All-weaker}
 use Rattle.std.proofs.lemmas.List.{append-nil}
 use Rattle.std.specs.Option.{option_to_list}
-use Rattle.std.specs.List.{AllByRecursion as All, slice_get}
+use Rattle.std.specs.List.{AllByRecursion as All}
 use Rattle.trail.specs.declared.entry.Entry.{Entry}
 use Rattle.coherence.proofs.AccountsHomes.{HomeKnown, MessageKnown}
 use Rattle.coherence.proofs.AccountsProcessors.{entry_issue}
 use Rattle.coherence.proofs.Carrying.{Accounted, next_number}
 use Rattle.coherence.proofs.Posting.{posted}
-use Rattle.coherence.proofs.Rising.{Pairs, nowhere, pairs_push}
+use Rattle.coherence.proofs.Rising.{Pairs, pairs_push}
+use Rattle.coherence.proofs.Standing.{stands_on}
 use Rattle.coherence.proofs.Stepping.{after}
 use Rattle.coherence.specs.Histories.{Issued}
 use Rattle.coherence.specs.Promise.{Stands}
@@ -20,22 +21,6 @@ use Rattle.coherence.specs.Steps.{Effect}
 use Rattle.coherence.specs.Worlds.{World, home_at}
 
 module _ {X : Type 0} where
-  -- what stands in a list stands in a longer one
-  still_there : (xs ys : List X) (i : ℕ) (x : X) → slice_get xs i ≡ Some x → slice_get (xs ++ ys) i ≡ Some x
-  still_there [] ys i x at = absurd (nowhere i x at)
-  still_there (z ∷ xs) ys zero x at = at
-  still_there (z ∷ xs) ys (suc i) x at = still_there xs ys i x at
-
-  pub stands_still : (xs ys : List X) (x : X) → Stands xs x → Stands (xs ++ ys) x
-  stands_still xs ys x at = (at.0, still_there xs ys at.0 x at.1)
-
-  pub stands_last : (xs : List X) (x : X) → Stands (xs ++ x ∷ []) x
-  stands_last [] x = (0, refl)
-  stands_last (z ∷ xs) x = let rest = stands_last xs x in (suc rest.0, rest.1)
-
-  pub stands_new : (xs : List X) (o : Option X) (x : X) → o ≡ Some x → Stands (xs ++ option_to_list o) x
-  stands_new xs o x is = subst (λ (y : Option X). Stands (xs ++ option_to_list y) x) (sym is) (stands_last xs x)
-
   -- what may be there and what is known of it
   pub all_listed : (P : X → Type 0) (xs : List X) (o : Option X) → All P xs → ((x : X) → o ≡ Some x → P x) → All P (xs ++ option_to_list o)
   all_listed P xs None all new = subst (All P) (sym (append-nil xs)) all
@@ -62,7 +47,7 @@ module _ {A B : Type 0} (issued : List Issued) (o : Option Issued) (w : World A 
     pub takes : (x : Issued) → o ≡ Some x → (x.sequence ≡ next_number w x.party) × (next_number w x.party < next_number e.next x.party)
 
   known_still : (x : Issued) → Stands issued x → Known x
-  known_still x = stands_still issued (option_to_list o) x
+  known_still x = stands_on issued (option_to_list o) x
 
   pub message_still : (m : Message ℕ) → MessageKnown (Stands issued) m → MessageKnown Known m
   message_still m known n q carried = known_still _ (known n q carried)

@@ -25,12 +25,12 @@ use Rattle.ordering.specs.declared.operation.Words.{Words}
 use Rattle.ordering.specs.declared.order.Access.{Access}
 use Rattle.std.proofs.lemmas.Bool.{both_ways}
 use Rattle.std.proofs.lemmas.Bool.Decides.{nat_tests}
+use Rattle.std.proofs.lemmas.Option.{same_Some}
 use Rattle.trail.specs.declared.entry.Entry.{Entry}
 use Rattle.coherence.proofs.Arising.{never}
 use Rattle.coherence.proofs.BalanceBridges.{decided, known}
 use Rattle.coherence.proofs.Carrying.{block_access, carries, carried_access, entry_access, is_block_request}
 use Rattle.coherence.proofs.Posting.{posted}
-use Rattle.coherence.proofs.Rising.{same_element}
 use Rattle.coherence.specs.Histories.{wish_access}
 
 module _ {S : Type 0} (m : Meaning S) where
@@ -63,7 +63,7 @@ module _ {S : Type 0} (m : Meaning S) where
   as_wished StIo b d ps h r o is = record { entry = λ e does. rw o (grind (arith, nat_tests)); sent = λ x posts n q carried. rw o (grind (arith, nat_tests)) }
   as_wished Int b d ps h r o is = record {
     entry = λ e does. rw o (grind (arith, nat_tests));
-    sent = λ x posts. subst (WishSent b d (wish_access d h)) (same_element _ x (sym (interrupt_sends b d ps h.processor (first_word h.words) r is) ∙ posts))
+    sent = λ x posts. subst (WishSent b d (wish_access d h)) (same_Some _ x (sym (interrupt_sends b d ps h.processor (first_word h.words) r is) ∙ posts))
         (λ n q carried. let own = interrupt_carries b d h.processor (one_word (first_word h.words)) n q carried in (rw o refl, own.0, own.1));
   }
   as_wished LdBlk b d ps h r o is = record { entry = λ e does. rw o (grind (arith, nat_tests)); sent = λ x posts n q carried. rw o (grind (arith, nat_tests)) }
@@ -123,7 +123,7 @@ module _ {S : Type 0} (m : Meaning S) where
 
       ends : (y : Message ℕ) → posted r.sent ≡ Some (plain kind.Taken (device_node d) x.sender x.place) → posted r.sent ≡ Some y → (n q : ℕ) → carries n q y ≡ true → ⊥
       ends y taken posts n q carried =
-          let same : plain kind.Taken (device_node d) x.sender x.place ≡ y = same_element _ y (sym taken ∙ posts) in
+          let same : plain kind.Taken (device_node d) x.sender x.place ≡ y = same_Some _ y (sym taken ∙ posts) in
           both_ways (carries n q y) (subst (λ (z : Message ℕ). carries n q z ≡ false) same (taken_idle n q (device_node d) x.sender x.place)) carried
 
       go : (k : Kind) → x.kind ≡ k → known m d b (receive_kind k m d b x) ≡ Some r → AsCame x r

@@ -17,10 +17,11 @@ use Rattle.processor.specs.declared.state.Processor.{Processor}
 use Rattle.std.proofs.ByRecursion.{All-get_or}
 use Rattle.std.proofs.lemmas.List.{get_or-set_other, get_or-set_same}
 use Rattle.std.proofs.lemmas.Bool.{cases_eq}
+use Rattle.std.proofs.lemmas.Option.{same_Some}
 use Rattle.std.specs.Option.{option_map, option_to_list}
 use Rattle.std.specs.List.{AllByRecursion as All}
 use Rattle.trail.specs.declared.entry.Entry.{Entry}
-use Rattle.coherence.proofs.Accounts.{Adds, Known, accounted_with, all_posted, homes_still, message_still, stands_new}
+use Rattle.coherence.proofs.Accounts.{Adds, Known, accounted_with, all_posted, homes_still, message_still}
 use Rattle.coherence.proofs.AccountsBridges.{AsCame, AsWished, as_came, wished_so}
 use Rattle.coherence.proofs.AccountsHomes.{HomeAccounts, HomeKnown, MessageKnown, home_accounts}
 use Rattle.coherence.proofs.AccountsProcessors.{call_enters, call_keeps, call_posts, call_takes, entry_issue, message_enters, not_posted, own_access}
@@ -30,10 +31,9 @@ use Rattle.coherence.proofs.BalanceProcessors as processors
 use Rattle.coherence.proofs.Carrying.{Accounted, carries, carried_access, entry_access, issued_as, next_number}
 use Rattle.coherence.proofs.Clocks.{Shape}
 use Rattle.coherence.proofs.Counting.{all_removed}
+use Rattle.coherence.proofs.FormsBuilt.{refuses_requests}
 use Rattle.coherence.proofs.Meeting.{Asks, Goes, Meets, at_call, at_first_wish, at_second_wish, to_processor, to_home, to_first, to_second}
 use Rattle.coherence.proofs.Posting.{bridge_posts, posted, processor_posts}
-use Rattle.coherence.proofs.Rising.{same_element}
-use Rattle.coherence.proofs.SlotsKept.{refuses_requests}
 use Rattle.coherence.proofs.Stepping.{after}
 use Rattle.coherence.proofs.Timing.{came_so}
 use Rattle.coherence.specs.Histories.{Issued, issues, wish_access}
@@ -43,6 +43,7 @@ use Rattle.coherence.specs.Worlds.{World, processor_at, home_at, with_processor,
 use Rattle.coherence.specs.declared.call.Call.{Call}
 use Rattle.coherence.specs.declared.call.Call.TheVariants.{Act}
 use Rattle.coherence.proofs.NextNumbers.{call_issues, delivery_issues, first_onward, interrupt_place, none_issued, processor_new, processor_onward, processor_own, request_place, second_onward}
+use Rattle.coherence.proofs.Standing.{stands_new, stands_some}
 
 same_issue : (p q n k : ℕ) → n ≡ p → k ≡ q → (a c : Access) → c ≡ a → issued_as p q a ≡ issued_as n k c
 same_issue p q n k party number a c same = rw (party, number, same) refl
@@ -94,7 +95,7 @@ module _ {A B : Type 0} (ma : Meaning A) (mb : Meaning B) (w : World A B) where
           o = issues ma mb c w
 
           known : (a : Access) → own_access i ≡ Some a → Stands (issued ++ option_to_list o) (issued_as p s.sequence a)
-          known a is = stands_new issued o (issued_as p s.sequence a) (call_issues ma mb w c p i asks ∙ ap (option_map (issued_as p s.sequence)) is)
+          known a is = stands_new issued (option_to_list o) (issued_as p s.sequence a) (stands_some o _ (call_issues ma mb w c p i asks ∙ ap (option_map (issued_as p s.sequence)) is))
 
           up : (x : Option Access) → own_access i ≡ x → s.sequence ≤ r.next.sequence
           up None is = let same = call_keeps s p i r h is in omega arith
@@ -104,7 +105,7 @@ module _ {A B : Type 0} (ma : Meaning A) (mb : Meaning B) (w : World A B) where
               → (x.sequence ≡ next_number w x.party) × (next_number w x.party < next_number (with_processor w p r.next) x.party)
           taken None is x has = never (let none = ap (option_map (issued_as p s.sequence)) is in cc)
           taken (Some a) is x has =
-              let same : issued_as p s.sequence a ≡ x = same_element _ x (sym (ap (option_map (issued_as p s.sequence)) is) ∙ has) in
+              let same : issued_as p s.sequence a ≡ x = same_Some _ x (sym (ap (option_map (issued_as p s.sequence)) is) ∙ has) in
               let one = call_takes s p i r h own a is in
               let old = processor_own w p small in
               let new = processor_new w p small shape.processors r.next in
@@ -163,13 +164,13 @@ module _ {A B : Type 0} (ma : Meaning A) (mb : Meaning B) (w : World A B) where
       wish_issued = own ∙ ap (option_map (λ h. issued_as (device_node d) b.sequence (wish_access d h))) (wished_so m b d ps r h).1
 
       wish_known : Stands (issued ++ option_to_list o) (issued_as (device_node d) b.sequence (wish_access d (wished_so m b d ps r h).0))
-      wish_known = stands_new issued o _ wish_issued
+      wish_known = stands_new issued (option_to_list o) _ (stands_some o _ wish_issued)
 
       -- of the world after
       wish_takes : (v : World A B) → next_number w (device_node d) ≡ b.sequence → next_number v (device_node d) ≡ r.next.sequence → (x : Issued) → o ≡ Some x
           → (x.sequence ≡ next_number w x.party) × (next_number w x.party < next_number v x.party)
       wish_takes v old new x is =
-          let same = same_element _ x (sym wish_issued ∙ is) in
+          let same = same_Some _ x (sym wish_issued ∙ is) in
           let one = bridges.wishes_take_number m b d (bridge.Act ps) r h refl in
           subst (λ (y : Issued). (y.sequence ≡ next_number w y.party) × (next_number w y.party < next_number v y.party)) same (sym old, omega arith)
 

@@ -12,14 +12,13 @@ use Rattle.message.specs.declared.message.Message.{Message}
 use Rattle.message.specs.declared.node.Node.TheVariants as node
 use Rattle.processor.specs.Receive as processor
 use Rattle.std.proofs.lemmas.Bool.{and_from, cond_both, cond-true, eq-eqb, cases_lt}
-use Rattle.std.proofs.lemmas.Option.{slice_get-get_or, slice_get_past}
+use Rattle.std.proofs.lemmas.Option.{slice_get-get_or, slice_get_past, none-some, same_Some}
 use Rattle.std.specs.Option.{option_map}
 use Rattle.std.specs.List.{slice_get}
 use Rattle.coherence.proofs.Arising.{never}
 use Rattle.coherence.proofs.Blocks.{about, hits, peer, pending, pending_is, token}
 use Rattle.coherence.proofs.Counting.{count, count_cons, indicator}
 use Rattle.coherence.proofs.FormsBuilt.{Well}
-use Rattle.coherence.proofs.Rising.{nowhere, same_element}
 use Rattle.coherence.proofs.Tally.{crosses, traffic, traffic_out}
 use Rattle.coherence.specs.Steps.{by_first, by_home, by_processor, by_second, delivered, figures}
 use Rattle.coherence.specs.Worlds.{World, home_at, processor_at}
@@ -27,9 +26,9 @@ use Rattle.coherence.specs.Worlds.{World, home_at, processor_at}
 -- What stands in a list and is kept is counted among what is kept.
 module _ {X : Type 0} (f g : X → Bool) where
   pub count_kept : (xs : List X) (i : ℕ) (x : X) → slice_get xs i ≡ Some x → g x ≡ true → indicator (f x) ≤ count f (filter g xs)
-  count_kept [] i x at passes = absurd (nowhere i x at)
+  count_kept [] i x at passes = absurd (none-some x at)
   count_kept (y ∷ xs) zero x at passes =
-      let same = same_element y x at in
+      let same = same_Some y x at in
       let now : filter g (y ∷ xs) ≡ y ∷ filter g xs = cond-true (g y) (y ∷ filter g xs) (filter g xs) (ap g same ∙ passes) in
       let all = ap (count f) now in
       let one = ap (λ z. indicator (f z)) same in

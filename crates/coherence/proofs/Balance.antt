@@ -1,5 +1,5 @@
 -- Every call keeps the balance of numbered operations: each is done once, carried once or served once.
-use Rattle.std.proofs.Common.{◌≡◌, ℕ, ◌+◌, ◌<◌, ◌≤◌, Bool, true, false, cond, ◌&&◌, ◌||◌, eqb, ltb, ◌⊎◌, List, ◌++◌, length, get_or, set, Some, None, Option, sym, refl, ap, subst, inl, inr, arith}
+use Rattle.std.proofs.Common.{◌≡◌, ℕ, ◌+◌, ◌<◌, ◌≤◌, Bool, true, false, cond, ◌&&◌, eqb, ltb, ◌⊎◌, List, ◌++◌, length, get_or, set, Some, None, sym, refl, ap, subst, inl, inr, arith}
 use Rattle.bridge.specs.Inputs as bridge
 use Rattle.bridge.specs.declared.state.Bridge.{Bridge}
 use Rattle.device.specs.Meaning.{Meaning}
@@ -7,17 +7,11 @@ use Rattle.home.specs.Homes.{new_home}
 use Rattle.home.specs.Reactions.{received}
 use Rattle.home.specs.declared.machine.Home.{Home}
 use Rattle.list.specs.Contents.{removed}
-use Rattle.message.proofs.Numbering.{numbers_tell_kinds}
-use Rattle.message.specs.Checks.{end_fits, fits}
-use Rattle.message.specs.Forms.{form_of, row, returned}
-use Rattle.message.specs.Kinds.{is_request, same_kind}
 use Rattle.message.specs.Messages.{no_message}
-use Rattle.message.specs.Nodes.{device_node, home_node, is_device}
+use Rattle.message.specs.Nodes.{device_node, home_node}
 use Rattle.message.specs.Reactions.{sent}
 use Rattle.message.specs.declared.figures.Figures.{Figures}
-use Rattle.message.specs.declared.form.End.{End}
 use Rattle.message.specs.declared.kind.Kind.{Kind}
-use Rattle.message.specs.declared.kind.Kind.TheVariants as kind
 use Rattle.message.specs.declared.message.Message.{Message}
 use Rattle.message.specs.declared.reaction.Reaction.{Reaction}
 use Rattle.processor.specs.Inputs as processor
@@ -25,7 +19,8 @@ use Rattle.processor.specs.States.{made}
 use Rattle.processor.specs.declared.state.Processor.{Processor}
 use Rattle.std.proofs.ByRecursion.{All-map}
 use Rattle.std.proofs.lemmas.List.{get_or-replicate, get_or-set_other, get_or-set_same}
-use Rattle.std.proofs.lemmas.Bool.{both_ways, cases_eq, cond_both, eq-eqb, eqb-true, lt-ltb, ltb-true, le-ltb, ne_eqb, or_cases}
+use Rattle.std.proofs.lemmas.Bool.{cases_eq, cond_both, eq-eqb, lt-ltb, ltb-true, le-ltb, ne_eqb}
+use Rattle.std.proofs.lemmas.Bool.Decides.{nat_tests}
 use Rattle.std.specs.List.{range_with_len}
 use Rattle.std.specs.Option.{option_to_list}
 use Rattle.coherence.proofs.BalanceBridges as bridges
@@ -33,12 +28,11 @@ use Rattle.coherence.proofs.BalanceHomes.{home_number}
 use Rattle.coherence.proofs.BalanceProcessors as processors
 use Rattle.coherence.proofs.Carrying.{Balanced, carries, done_as, is_block_request, next_number, serves}
 use Rattle.coherence.proofs.Clocks.{Shape}
-use Rattle.coherence.proofs.Counting.{indicator, count, count_append, count_none, count_removed, none_counted}
-use Rattle.coherence.proofs.FormsBuilt.{Well, as_back}
+use Rattle.coherence.proofs.Counting.{indicator, count, count_append, count_none, count_removed, count_set, none_counted}
+use Rattle.coherence.proofs.FormsBuilt.{Well, refuses_requests}
 use Rattle.coherence.proofs.Meeting.{Goes, Meets, at_call, at_first_wish, at_second_wish, to_processor, to_home, to_first, to_second}
-use Rattle.coherence.proofs.Posting.{processor_posts, bridge_posts, count_listed, count_posted, count_set}
+use Rattle.coherence.proofs.Posting.{processor_posts, bridge_posts, count_listed, count_posted}
 use Rattle.coherence.proofs.Rising.{all_from_nth}
-use Rattle.coherence.proofs.SlotsKept.{refuses_requests}
 use Rattle.coherence.proofs.Stepping.{after}
 use Rattle.coherence.proofs.Timing.{came_so}
 use Rattle.coherence.specs.Makings.{Making, block_words, make}
@@ -46,37 +40,9 @@ use Rattle.coherence.specs.Steps.{Effect, figures, by_processor, by_home, by_fir
 use Rattle.coherence.specs.Worlds.{World, processor_at, home_at, with_processor, with_first, with_second, no_processor, no_home}
 use Rattle.coherence.specs.declared.call.Call.{Call}
 
--- only a NACK refuses
-pub nack_refuses : (f : Figures) (m : Message ℕ) → Well f m → (k : Kind) → m.refused ≡ Some k → m.kind ≡ kind.Nack
-nack_refuses f m well k is = go (same_kind m.kind kind.Nack) refl (subst (λ (o : Option Kind). elim (form_of m.kind o) [ None ↦ false | Some o ↦ fits f o m ] ≡ true) is well)
-  where
-    go : (x : Bool) → same_kind m.kind kind.Nack ≡ x → elim (cond (x && is_request k) (Some (returned (row k))) None) [ None ↦ false | Some o ↦ fits f o m ] ≡ true → m.kind ≡ kind.Nack
-    go true e h = numbers_tell_kinds m.kind kind.Nack e
-    go false e h = absurd (both_ways false refl h)
-
 -- no block request is given back to a processor
-far_device : (n : ℕ) → n < 4 → is_device n ≡ true → ⊥
-far_device n small h = go (or_cases (eqb n 4) (eqb n 5) h)
-  where
-    go : (eqb n 4 ≡ true) ⊎ (eqb n 5 ≡ true) → ⊥
-    go (inl x) = let e = eqb-true n 4 x in omega arith
-    go (inr x) = let e = eqb-true n 5 x in omega arith
-
 pub processor_refused : (f : Figures) (m : Message ℕ) → Well f m → m.receiver < 4 → (k : Kind) → m.refused ≡ Some k → is_block_request k ≡ false
-processor_refused f m well small k is = go (same_kind k kind.Rblk) (same_kind k kind.Wblk) refl refl
-  where
-    back : end_fits f (row k).sender m.receiver m.place ≡ true
-    back = (as_back f m k (nack_refuses f m well k is) is well).1.receiver
-
-    device : (j : Kind) → (row j).sender ≡ (row kind.Rblk).sender → k ≡ j → ⊥
-    device j e same =
-        far_device m.receiver small
-        (subst (λ (x : End). end_fits f x m.receiver m.place ≡ true) e (subst (λ (x : Kind). end_fits f (row x).sender m.receiver m.place ≡ true) same back))
-
-    go : (x y : Bool) → same_kind k kind.Rblk ≡ x → same_kind k kind.Wblk ≡ y → (x || y) ≡ false
-    go true y e h = absurd (device kind.Rblk refl (numbers_tell_kinds k kind.Rblk e))
-    go false true e h = absurd (device kind.Wblk refl (numbers_tell_kinds k kind.Wblk h))
-    go false false e h = refl
+processor_refused f m well small k is = grind (arith, nat_tests)
 
 module _ {A B : Type 0} (w : World A B) where
   -- what a node's new number changes: the test of its own party alone

@@ -1,6 +1,6 @@
 -- Bounds of one block: where each entry on it stands to the clocks of the home, of those who hold a copy, and of the
 -- acknowledgements on their way. So whoever may operate now has a clock above all that conflicts.
-use Rattle.std.proofs.Common.{◌≡◌, ℕ, ◌+◌, ◌<◌, ◌≤◌, max, Bool, true, false, ◌||◌, eqb, List, [], sym, refl, ◌∙◌, subst, inl, arith}
+use Rattle.std.proofs.Common.{◌≡◌, ℕ, ◌+◌, ◌<◌, ◌≤◌, max, Bool, true, false, ◌||◌, eqb, List, [], sym, refl, ◌∙◌, subst, inl, arith, ap}
 use Rattle.home.specs.Directories.{round_of}
 use Rattle.home.specs.declared.machine.Home.{Home}
 use Rattle.message.specs.declared.message.Message.{Message}
@@ -55,11 +55,18 @@ none_of ms q none = (
   none_counted (hits 41 q) ms (All-weaker (λ m. is_ack m ≡ false) (λ m. hits 41 q m ≡ false) (λ m h. and_left (eqb (token m) 41) (eqb (peer m) q) (or_parts (eqb (token m) 12) (eqb (token m) 41) h).1) ms none),
 )
 
-pub posted_none : (ms : List (Message ℕ)) → Posted ms [] [] ms
+posted_none : (ms : List (Message ℕ)) → Posted ms [] [] ms
 posted_none ms = record { counts = λ f. refl; known = λ m has. inl has; waited = λ m has. absurd (nobody m has) }
   where
     nobody : (m : Message ℕ) → Has [] m → ⊥
     nobody m has = let low = has.1 in omega arith
+
+-- the same messages, as what is posted
+pub posted_same : (ms ns : List (Message ℕ)) → ns ≡ ms → Posted ms [] [] ns
+posted_same ms ns same = subst (Posted ms [] []) (sym same) (posted_none ms)
+
+pub same_bound : {h k : Home ℕ} → k ≡ h → bound h ≤ bound k
+same_bound same = let e = ap bound same in omega arith
 
 -- Where no acknowledgement goes or comes, there are as many as before.
 pub unmoved : (before now gone come : List (Message ℕ)) → Posted before gone come now → NoAcks gone → NoAcks come → (q : ℕ)

@@ -1,6 +1,6 @@
 -- The home finishes: its clock goes above all that it knows of, so an operation of its own is above every entry that
 -- conflicts with it.
-use Rattle.std.proofs.Common.{◌≡◌, ℕ, ◌+◌, ◌<◌, ◌≤◌, max, Bool, true, false, ◌&&◌, eqb, [], ◌∷◌, ◌++◌, is_some, Some, None, Option, sym, refl, ap, subst, ⊎_elim, arith}
+use Rattle.std.proofs.Common.{◌≡◌, ℕ, ◌+◌, ◌<◌, ◌≤◌, max, true, false, ◌&&◌, eqb, [], ◌∷◌, ◌++◌, is_some, Some, None, Option, sym, refl, ap, subst, ⊎_elim, arith}
 use Rattle.home.specs.Directories.{round_of}
 use Rattle.home.specs.Reactions.{clock_after, finished, reply}
 use Rattle.home.specs.Requests.{operation_for, asks_down}
@@ -14,7 +14,7 @@ use Rattle.ordering.specs.declared.clock.Clock.{Clock}
 use Rattle.ordering.specs.declared.stamp.Stamp.{Stamp}
 use Rattle.std.proofs.ByRecursion.{All-push, All-weaker}
 use Rattle.std.proofs.lemmas.List.{append-nil}
-use Rattle.std.proofs.lemmas.Bool.{both_ways, cond_both, or_cases}
+use Rattle.std.proofs.lemmas.Bool.{both_ways, cond_both, or_cases, and_right}
 use Rattle.std.proofs.lemmas.Bool.Decides.{nat_tests}
 use Rattle.std.specs.Option.{option_to_list}
 use Rattle.std.specs.List.{AllByRecursion as All}
@@ -69,13 +69,9 @@ module _ (b : ℕ) (x y : Block) (t : Tokens x) (bounds : Bounds x) (r : Finishe
       let copy = (t.copies q).copy in
       let waits = (t.gathered q).waits in
       let z = none_asked x t r.heard q in
-      let off : (gathers h && (eqb (kind_number (round_of h.directory).request.kind) 3 && eqb (round_of h.directory).request.requester q)) ≡ false = rw k.1 (neither (gathers h)) in
+      let off : (gathers h && (eqb (kind_number (round_of h.directory).request.kind) 3 && eqb (round_of h.directory).request.requester q)) ≡ false = rw k.1 (and_right (gathers h) false refl) in
       let not_upgrading : serving h 3 q ≡ 0 = ap indicator off in
       omega (arith, busy, k.0, z.0, z.1, z.2, z.3)
-    where
-      neither : (g : Bool) → (g && false) ≡ false
-      neither true = refl
-      neither false = refl
 
   global_now : y.home.clock.global ≡ (clock_after h.clock (round_of h.directory)).global
   global_now = ap (λ (k : Home ℕ). k.clock.global) r.home

@@ -1,5 +1,5 @@
 -- Every move of a block keeps the bounds of its entries, and an entry that it adds is above those that conflict with it.
-use Rattle.std.proofs.Common.{◌≡◌, ℕ, ◌+◌, ◌<◌, ◌≤◌, Bool, true, false, eqb, [], ◌∷◌, ◌++◌, Some, None, Option, sym, refl, ap, ◌∙◌, subst, arith}
+use Rattle.std.proofs.Common.{◌≡◌, ℕ, ◌+◌, ◌<◌, ◌≤◌, true, false, eqb, [], ◌∷◌, ◌++◌, Some, None, Option, sym, refl, ap, ◌∙◌, subst, arith}
 use Rattle.home.specs.Reactions.{finished}
 use Rattle.message.specs.declared.kind.Kind.{Kind}
 use Rattle.message.specs.declared.kind.Kind.TheVariants as kind
@@ -19,16 +19,12 @@ use Rattle.coherence.proofs.BoundsFinished.{finishes_bounds, finishes_fresh}
 use Rattle.coherence.proofs.BoundsOperations.{loads_bounds, loads_fresh, stores_bounds, stores_fresh}
 use Rattle.coherence.proofs.BoundsQuiet.{asks_bounds, fit_request, frees_bounds, nacked_bounds, refusal_class, request_class, requests_bounds, rests_bounds, returns_bounds, takes_bounds}
 use Rattle.coherence.proofs.Carrying.{gathers}
-use Rattle.coherence.proofs.Counting.{indicator, indicator_most}
+use Rattle.coherence.proofs.Counting.{indicator, indicator_most, not_sure}
 use Rattle.coherence.proofs.Moves.{GivesWay, Moves, Takes, rests, loads, stores, requests, invalidates_shared, invalidates_owned, downgrades, shares, owns, betters, gives_back, lands, stored, nacked, again, refuses, asks_holders, hears, finishes, frees}
 use Rattle.coherence.proofs.Phases.{nothing_heard}
 use Rattle.coherence.proofs.Shifts.{TimedReply, apart, moved_here}
 use Rattle.coherence.proofs.Sole.{copies_add, held_most}
 use Rattle.coherence.proofs.Tokens.{Tokens, answering, exclusive, gathering, held, holder, is_reply, out_is}
-
-not_so : (t : Bool) → indicator t ≡ 0 → t ≡ false
-not_so true is = absurd (omega arith)
-not_so false is = refl
 
 module _ (b : ℕ) (x y : Block) (t : Tokens x) (bounds : Bounds x) where
   -- Who is asked has not answered yet.
@@ -49,7 +45,7 @@ module _ (b : ℕ) (x y : Block) (t : Tokens x) (bounds : Bounds x) where
 
     limit : p < 4 → is_reply c ≡ true → 1 ≤ answering x.home p → bound x.home < y.clock p
     limit small is answered =
-        let free = not_so (gathers x.home) (idle answered) in
+        let free = not_sure (gathers x.home) (idle answered) in
         let none = nothing_heard x.home free in
         let clock = (posted_gone (TimedReply x.home) x.messages (m ∷ []) _ y.messages r.messages t.clocks).0 (ap is_reply r.class ∙ is) in
         let on = r.onward small in

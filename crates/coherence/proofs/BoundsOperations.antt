@@ -1,6 +1,5 @@
 -- Operations on a block: the new entry has its bounds, and is above every entry of another node that may conflict with it.
-use Rattle.std.proofs.Common.{◌≡◌, ℕ, ◌<◌, ◌≤◌, Bool, true, false, cond, eqb, ◌⊎◌, List, [], Some, sym, refl, ap, ◌∙◌, subst, inl, inr, ⊎_elim, arith}
-use Rattle.message.specs.declared.message.Message.{Message}
+use Rattle.std.proofs.Common.{◌≡◌, ℕ, ◌<◌, Bool, true, false, cond, eqb, ◌⊎◌, [], Some, sym, refl, ap, ◌∙◌, subst, inl, inr, ⊎_elim, arith}
 use Rattle.ordering.specs.Operations.{is_write}
 use Rattle.ordering.specs.declared.operation.Words.{Words}
 use Rattle.processor.specs.Lines.{held_words, with_word}
@@ -11,8 +10,8 @@ use Rattle.std.proofs.lemmas.Bool.{both_ways, cases_Bool, cases_eq, eqb-true, or
 use Rattle.std.specs.List.{AllByRecursion as All}
 use Rattle.trail.specs.declared.entry.Entry.{Entry}
 use Rattle.coherence.proofs.Arising.{never}
-use Rattle.coherence.proofs.Blocks.{Block, Posted, all_from_has, peer}
-use Rattle.coherence.proofs.Bounds.{Acknowledged, Bounded, Bounds, Fresh, bound, bounded_on, is_ack, posted_none}
+use Rattle.coherence.proofs.Blocks.{Block, all_from_has, peer}
+use Rattle.coherence.proofs.Bounds.{Acknowledged, Bounded, Bounds, Fresh, bounded_on, is_ack, posted_same, same_bound}
 use Rattle.coherence.proofs.BoundsCopies.{no_acks_of}
 use Rattle.coherence.proofs.Moves.{Loads, Stores}
 use Rattle.coherence.proofs.Sole.{copies_add, held_most, sole}
@@ -33,13 +32,6 @@ which (Exclusive v) is = inr refl
 module _ (b : ℕ) (x y : Block) (t : Tokens x) (bounds : Bounds x) where
   abbrev BoundedIn : Block → Entry → Type 0
   BoundedIn z e = Bounded z.line z.clock z.home z.messages e
-
-  -- the same messages, as what is posted
-  still : y.messages ≡ x.messages → Posted x.messages [] [] y.messages
-  still same = subst (λ (ms : List (Message ℕ)). Posted x.messages [] [] ms) (sym same) (posted_none x.messages)
-
-  up : y.home ≡ x.home → bound x.home ≤ bound y.home
-  up same = let e = ap bound same in omega arith
 
   -- A load: writes of others are below the clock of whoever holds a copy.
   module _ (p w : ℕ) (ws : Words) (e : Entry) (r : Loads b x y p w ws e) where
@@ -81,7 +73,7 @@ module _ (b : ℕ) (x y : Block) (t : Tokens x) (bounds : Bounds x) where
         subst (All (BoundedIn y)) (sym r.trail)
         (All-push (BoundedIn y) x.trail e
         (All-weaker (BoundedIn x) (BoundedIn y)
-        (bounded_on x y [] [] (λ q. same_line (y.line q) (x.line q) (r.lines q)) (λ q. let c = r.clocks q in omega arith) (up r.home) (still r.messages) tt tt) x.trail bounds)
+        (bounded_on x y [] [] (λ q. same_line (y.line q) (x.line q) (r.lines q)) (λ q. let c = r.clocks q in omega arith) (same_bound r.home) (posted_same x.messages y.messages r.messages) tt tt) x.trail bounds)
         new_load)
 
   -- A store: everything of others is below the owner's clock.
@@ -128,5 +120,5 @@ module _ (b : ℕ) (x y : Block) (t : Tokens x) (bounds : Bounds x) where
         subst (All (BoundedIn y)) (sym r.trail)
         (All-push (BoundedIn y) x.trail e
         (All-weaker (BoundedIn x) (BoundedIn y)
-        (bounded_on x y [] [] line_now (λ q. let c = r.clocks q in omega arith) (up r.home) (still r.messages) tt tt) x.trail bounds)
+        (bounded_on x y [] [] line_now (λ q. let c = r.clocks q in omega arith) (same_bound r.home) (posted_same x.messages y.messages r.messages) tt tt) x.trail bounds)
         new_store)

@@ -1,5 +1,5 @@
 -- Moves in which no acknowledgement goes or comes and no copy changes: the bounds of a block stay.
-use Rattle.std.proofs.Common.{◌≡◌, ℕ, ◌<◌, ◌≤◌, true, false, cond, ◌||◌, eqb, ◌⊎◌, List, [], ◌∷◌, sym, refl, ap, ◌∙◌, subst, inl, inr, arith}
+use Rattle.std.proofs.Common.{◌≡◌, ℕ, ◌<◌, ◌≤◌, true, false, ◌||◌, eqb, ◌⊎◌, [], ◌∷◌, refl, ap, ◌∙◌, inl, inr, arith}
 use Rattle.home.specs.Directories.{round_of}
 use Rattle.home.specs.Reactions.{clock_freed, reply}
 use Rattle.home.specs.Requests.{asks_by}
@@ -16,15 +16,16 @@ use Rattle.ordering.specs.declared.clock.Clock.{Clock}
 use Rattle.ordering.specs.declared.operation.Words.{Words}
 use Rattle.processor.specs.Calls.{fits}
 use Rattle.processor.specs.declared.line.Line.{Line}
-use Rattle.std.proofs.lemmas.Bool.{cases_Bool, cond_both, eqb-true}
+use Rattle.std.proofs.lemmas.Bool.{cond_both}
 use Rattle.std.proofs.lemmas.Bool.Decides.{nat_tests}
-use Rattle.coherence.proofs.Blocks.{Block, Posted, token}
-use Rattle.coherence.proofs.Bounds.{Bounds, bound, bounds_on, is_ack, posted_none}
+use Rattle.coherence.proofs.Blocks.{Block, token}
+use Rattle.coherence.proofs.Bounds.{Bounds, bound, bounds_on, is_ack, posted_same, same_bound}
 use Rattle.coherence.proofs.Carrying.{is_block_request}
 use Rattle.coherence.proofs.Classes.{refusal_of}
 use Rattle.coherence.proofs.Moves.{AsksHolders, Frees, Nacked, Requests, Rests, Returns, Takes}
 use Rattle.coherence.proofs.MovesHomes.{each_asked}
 use Rattle.coherence.proofs.Phases.{gathers_no_more, idle, nothing_heard}
+use Rattle.coherence.proofs.Shifts.{put_same}
 use Rattle.coherence.proofs.TokensKept.{Alike, same_line}
 
 -- what a node may ask for is a request
@@ -52,44 +53,34 @@ module _ (b : ℕ) (x y : Block) where
   stay : ((q : ℕ) → y.line q ≡ x.line q) → (q : ℕ) → Alike (y.line q) (x.line q)
   stay lines q = same_line (y.line q) (x.line q) (lines q)
 
-  same_home : y.home ≡ x.home → bound x.home ≤ bound y.home
-  same_home is = let e = ap bound is in omega arith
-
   rise : ((q : ℕ) → y.clock q ≡ x.clock q) → (q : ℕ) → x.clock q ≤ y.clock q
   rise clocks q = let e = clocks q in omega arith
 
   pub rests_bounds : Bounds x → Rests b x y → Bounds y
   rests_bounds bounds r =
-      bounds_on x y [] [] (stay r.lines) r.clocks (same_home r.home)
-      (subst (λ (ms : List (Message ℕ)). Posted x.messages [] [] ms) (sym r.messages) (posted_none x.messages)) tt tt r.trail bounds
+      bounds_on x y [] [] (stay r.lines) r.clocks (same_bound r.home)
+      (posted_same x.messages y.messages r.messages) tt tt r.trail bounds
 
   pub requests_bounds : (n : ℕ) (k : Kind) (m : Message ℕ) → is_request k ≡ true → Bounds x → Requests b x y n k m → Bounds y
   requests_bounds n k m is bounds r =
-      bounds_on x y [] (m ∷ []) (stay r.lines) (rise r.clocks) (same_home r.home) r.messages tt
+      bounds_on x y [] (m ∷ []) (stay r.lines) (rise r.clocks) (same_bound r.home) r.messages tt
       (other_class m (kind_number k) r.class (request_class k is), tt) r.trail bounds
 
   pub nacked_bounds : (p : ℕ) (k : Kind) (m : Message ℕ) → is_request k ≡ true → Bounds x → Nacked b x y p k m → Bounds y
   nacked_bounds p k m is bounds r =
-      bounds_on x y (m ∷ []) [] (stay r.lines) (rise r.clocks) (same_home r.home) r.messages
+      bounds_on x y (m ∷ []) [] (stay r.lines) (rise r.clocks) (same_bound r.home) r.messages
       (other_class m (refusal_of k) r.class (refusal_class k is), tt) tt r.trail bounds
 
   pub returns_bounds : (n c d : ℕ) (m a : Message ℕ) → (eqb c 12 || eqb c 41) ≡ false → (eqb d 12 || eqb d 41) ≡ false → Bounds x → Returns b x y n c d m a → Bounds y
   returns_bounds n c d m a out new bounds r =
-      bounds_on x y (m ∷ []) (a ∷ []) (stay r.lines) (rise r.clocks) (same_home r.home) r.messages
+      bounds_on x y (m ∷ []) (a ∷ []) (stay r.lines) (rise r.clocks) (same_bound r.home) r.messages
       (other_class m c r.class out, tt) (other_class a d r.class_back new, tt) r.trail bounds
 
   -- a reply that leaves the line as it was
   pub takes_bounds : (n : ℕ) (k : Kind) (c : ℕ) (m : Message ℕ) → (eqb c 12 || eqb c 41) ≡ false → Bounds x → Takes b x y n k (x.line n) (x.line n) c m → Bounds y
   takes_bounds n k c m out bounds r =
-      bounds_on x y (m ∷ []) _ (stay lines) r.clocks (same_home r.home) r.messages
+      bounds_on x y (m ∷ []) _ (stay (λ q. r.lines q ∙ put_same n q x.line)) r.clocks (same_bound r.home) r.messages
       (other_class m c r.class out, tt) (refl, tt) r.trail bounds
-    where
-      lines : (q : ℕ) → y.line q ≡ x.line q
-      lines q = r.lines q ∙ go (cases_Bool (eqb n q))
-        where
-          go : (eqb n q ≡ true) ⊎ (eqb n q ≡ false) → cond (eqb n q) (x.line n) (x.line q) ≡ x.line q
-          go (inl here) = rw here (ap x.line (eqb-true n q here))
-          go (inr there) = rw there refl
 
   -- the home begins to gather: it has heard nothing yet, and had nothing to hear
   pub asks_bounds : (m : Message ℕ) (t s : Processors) → Bounds x → AsksHolders b x y m t s → Bounds y

@@ -18,12 +18,13 @@ use Rattle.ordering.specs.declared.order.Access.{Access}
 use Rattle.ordering.specs.declared.order.Party.{Party}
 use Rattle.std.proofs.lemmas.Bool.{both_ways, cases_order, and_from, eq-eqb}
 use Rattle.std.proofs.lemmas.Bool.Decides.{nat_tests}
+use Rattle.std.proofs.lemmas.Option.{same_Some}
 use Rattle.std.specs.List.{slice_get}
 use Rattle.coherence.proofs.Carrying.{carries, carried_access}
 use Rattle.coherence.proofs.FormsBuilt.{Well}
 use Rattle.coherence.proofs.OrderTables.{before_io, before_int}
 use Rattle.coherence.proofs.Orderly.{is_channel, Follows, InLine, Known}
-use Rattle.coherence.proofs.Rising.{same_element, pairs_nth}
+use Rattle.coherence.proofs.Rising.{pairs_nth}
 use Rattle.coherence.proofs.Settling.{of_processor, of_device, fits_processor}
 use Rattle.coherence.proofs.Standing.{stands_all}
 use Rattle.coherence.proofs.Whereabouts.{nth_inside, carries_io, serves_block, io_ends, Found, done_when}
@@ -75,7 +76,7 @@ module _ {A B : Type 0} (ma : Meaning A) (mb : Meaning B) (f : Figures) (h : His
 
       go : (j ≡ i) ⊎ ((j < i) ⊎ (i < j)) → ⊥
       go (inl same) =
-          let equal = same_element o m (sym there ∙ ap (slice_get w.messages) same ∙ at) in
+          let equal = same_Some o m (sym there ∙ ap (slice_get w.messages) same ∙ at) in
           let number = ap (λ (y : Message ℕ). y.sequence) equal in
           omega arith
       go (inr (inl older)) =

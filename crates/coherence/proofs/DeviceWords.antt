@@ -1,5 +1,5 @@
 -- A device's words are the current values of its space: only an STio in it writes there, and it writes the device's word.
-use Rattle.std.proofs.Common.{◌≡◌, ℕ, ◌/◌, ◌%◌, ◌<◌, Bool, true, false, cond, ◌&&◌, ◌||◌, eqb, ◌⊎◌, List, ◌++◌, length, get_or, set, Some, None, Option, sym, refl, ap, ◌∙◌, subst, inl, inr, arith}
+use Rattle.std.proofs.Common.{◌≡◌, ℕ, ◌/◌, ◌%◌, ◌<◌, true, false, cond, ◌&&◌, ◌||◌, eqb, ◌⊎◌, List, ◌++◌, length, get_or, set, Some, None, Option, sym, refl, ap, ◌∙◌, subst, inl, inr, arith}
 use Rattle.bridge.proofs.Clocks as bridge
 use Rattle.bridge.proofs.Writing as bridge_writing
 use Rattle.bridge.specs.Laws.{rewritten}
@@ -13,7 +13,7 @@ use Rattle.ordering.specs.declared.operation.Operation.TheVariants.{Ld, St, LdIo
 use Rattle.ordering.specs.declared.operation.Words.{Words}
 use Rattle.processor.specs.Laws.{EachReaction}
 use Rattle.std.proofs.lemmas.List.{append-nil, get_or-set_same, get_or-set_other}
-use Rattle.std.proofs.lemmas.Bool.{cases_eq, ne_eqb, eq-eqb, false≢true}
+use Rattle.std.proofs.lemmas.Bool.{cases_eq, ne_eqb, eq-eqb, false≢true, and_right}
 use Rattle.std.proofs.lemmas.Bool.Decides.{nat_tests}
 use Rattle.std.specs.Option.{option_to_list}
 use Rattle.trail.specs.declared.address.Address.{Address}
@@ -56,11 +56,7 @@ module _ (start : Address → ℕ) (trail : List Entry) where
   elsewhere : (o : Option Entry) (a : Address) → ((x : Entry) → o ≡ Some x → x.space ≡ a.space → ⊥)
       → current start (trail ++ option_to_list o) a ≡ current start trail a
   elsewhere None a other = ap (λ (es : List Entry). current start es a) (append-nil trail)
-  elsewhere (Some x) a other = current_kept start trail x a (rw (ne_eqb x.space a.space (other x refl)) (neither (is_write x.operation)))
-    where
-      neither : (b : Bool) → (b && false) ≡ false
-      neither true = refl
-      neither false = refl
+  elsewhere (Some x) a other = current_kept start trail x a (rw (ne_eqb x.space a.space (other x refl)) (and_right (is_write x.operation) false refl))
 
   -- what is entered in a device's space, s, is what the device's words become
   here : (s : ℕ) (ws : List ℕ) (o : Option Entry)

@@ -37,10 +37,11 @@ use Rattle.coherence.proofs.ErrandsBridges.{bridge_posts, wish_starts, wish_inte
 use Rattle.coherence.proofs.ErrandsAtHomes.{at_homes}
 use Rattle.coherence.proofs.ErrandsAtProcessors.{Comes, pairs_one, posted_one, at_calls, at_messages}
 use Rattle.coherence.proofs.Posting.{posted}
-use Rattle.coherence.proofs.FormsBuilt.{Well}
+use Rattle.coherence.proofs.FormsBuilt.{refuses_requests}
 use Rattle.coherence.proofs.Meeting.{Goes, Meets, at_call, at_first_wish, at_second_wish, to_processor, to_home, to_first, to_second}
 use Rattle.coherence.proofs.Orderly.{Follows, now, requests_at, Tracked}
 use Rattle.coherence.proofs.Rising.{Pairs}
+use Rattle.coherence.proofs.Settling.{device_named}
 use Rattle.coherence.proofs.Slots.{awaits}
 use Rattle.coherence.proofs.Standing.{some_there, stands_all}
 use Rattle.coherence.proofs.Tally.{crosses}
@@ -48,9 +49,6 @@ use Rattle.coherence.specs.Promise.{Stands}
 use Rattle.coherence.specs.Steps.{Effect, figures, by_first, by_second}
 use Rattle.coherence.specs.Worlds.{World, home_at, no_processor, no_home}
 use Rattle.coherence.specs.declared.call.Call.{Call}
-
-only_requests : (f : Figures) (m : Message ℕ) → Well f m → (k : Kind) → m.refused ≡ Some k → is_request k ≡ true
-only_requests f m well k back = grind (arith, nat_tests)
 
 rio_number : (p q : ℕ) (m : Message ℕ) (n s : ℕ) → crosses 7 p q m ≡ true → carries n s m ≡ true → s ≡ m.sequence
 rio_number p q m n s rio c = grind (arith, nat_tests)
@@ -126,16 +124,13 @@ module _ {A B : Type 0} (w : World A B) where
         (λ other. let q = wish_requests m b d ps r h y post other in (q.0, q.1, free (carried_access y).place q.2)))
         (λ x does.
         let k = wish_does m b d ps r h x does in
-        on_own (subst (λ (n : ℕ). is_device n ≡ true) (sym k.0) (node d shows.two)) k.1 (omega (arith, k.0, k.2)))
+        on_own (subst (λ (n : ℕ). is_device n ≡ true) (sym k.0) (device_named d shows.two)) k.1 (omega (arith, k.0, k.2)))
         (λ p j y post value. absurd (both_ways (crosses 18 (device_node j) p y) (wish_values m b d ps r h y post (device_node j) p) value))
         (outs_of m d b (bridge.Act ps) r h e shows (λ _. ⊥) (λ k none. inl (wish_outs m b d ps r h k none)) (λ k no_way. absurd no_way))
-      where
-        node : (d : ℕ) → d < 2 → is_device (device_node d) ≡ true
-        node d two = grind (arith, nat_tests)
 
     module _ (f : Figures) (tracked : Tracked w) (x : Message ℕ) (comes : Comes w f x (device_node d)) (h : bridge.reaction m d b (bridge.Receive x) ≡ Some r) where
       refuses : (k : Kind) → x.refused ≡ Some k → is_request k ≡ true
-      refuses = only_requests f x comes.well
+      refuses = refuses_requests f x comes.well
 
       brings : (p j : ℕ) (y : Message ℕ) → posted r.sent ≡ Some y → crosses 18 (device_node j) p y ≡ true → Brings w e p j y
       brings p j y post value =

@@ -1,11 +1,9 @@
 -- What effects at processors do to the operations under way.
 use Rattle.std.proofs.Common.{◌≡◌, ℕ, ◌<◌, true, ◌⊎◌, List, Some, None, Option, sym, refl, ap, ◌∙◌, subst, inl, inr, ⊎_elim, arith}
-use Rattle.message.specs.Kinds.{same_kind}
 use Rattle.message.specs.Nodes.{device_node}
 use Rattle.message.specs.Pairs.{oldest_of_pair}
 use Rattle.message.specs.Reactions.{sent}
 use Rattle.message.specs.declared.figures.Figures.{Figures}
-use Rattle.message.specs.declared.kind.Kind.TheVariants as kind
 use Rattle.message.specs.declared.message.Message.{Message}
 use Rattle.message.specs.declared.reaction.Reaction.{Reaction}
 use Rattle.ordering.specs.Words.{first_word}
@@ -15,7 +13,6 @@ use Rattle.processor.specs.declared.slot.Slot.TheVariants.{Came}
 use Rattle.processor.specs.declared.state.Processor.{Processor}
 use Rattle.std.proofs.lemmas.List.{get_or-set_same, get_or-set_other}
 use Rattle.std.proofs.lemmas.Bool.{cases_eq, cases_Bool, both_ways, lt-ltb}
-use Rattle.std.proofs.lemmas.Bool.Decides.{nat_tests}
 use Rattle.std.specs.Option.{option_to_list}
 use Rattle.std.specs.List.{slice_get}
 use Rattle.trail.specs.declared.entry.Entry.{Entry}
@@ -26,6 +23,7 @@ use Rattle.coherence.proofs.Errands.{Errands, Sent, called, Does, on_memory, del
 use Rattle.coherence.proofs.ErrandsProcessors.{processor_starts, processor_values, processor_does, processor_interrupts, processor_interrupted, slot_rests, slot_filled, slot_rests_at, slot_filled_at, slot_fills, value_passed}
 use Rattle.coherence.proofs.Posting.{posted, processor_posts}
 use Rattle.coherence.proofs.FormsBuilt.{Well}
+use Rattle.coherence.proofs.NextNumbers.{interrupt_place, processor_own}
 use Rattle.coherence.proofs.Orderly.{now, Follows}
 use Rattle.coherence.proofs.Rising.{Pairs}
 use Rattle.coherence.proofs.Slots.{awaits}
@@ -43,10 +41,6 @@ pairs_one R (Some x) = (tt, tt)
 pub posted_one : (l : List (Message ℕ)) (o : Option (Message ℕ)) (y : Message ℕ) → l ≡ option_to_list o → Stands l y → o ≡ Some y
 posted_one l o y is there = stands_only o y (subst (λ (k : List (Message ℕ)). Stands k y) is there)
 
--- INT goes to the processor that it is about.
-int_place : (f : Figures) (m : Message ℕ) → Well f m → same_kind m.kind kind.Int ≡ true → m.place ≡ m.receiver
-int_place f m well int = grind (arith, nat_tests)
-
 module _ {A B : Type 0} (w : World A B) where
   -- A message that is delivered, as the oldest of its pair.
   pub record Comes (f : Figures) (m : Message ℕ) (to : ℕ) : Type 0 where
@@ -55,9 +49,6 @@ module _ {A B : Type 0} (w : World A B) where
     pub turn : oldest_of_pair w.messages at ≡ None
     pub well : Well f m
     pub receiver : m.receiver ≡ to
-
-  pub next_of : (p : ℕ) → p < 4 → next_number w p ≡ (processor_at w p).sequence
-  next_of p small = rw (lt-ltb p 4 small) refl
 
   pub now_of : (p : ℕ) → p < 4 → now w p ≡ (processor_at w p).clock.global
   now_of p small = rw (lt-ltb p 4 small, now, clock_at) refl
@@ -79,7 +70,7 @@ module _ {A B : Type 0} (w : World A B) where
     starts y there n q c =
         let x = processor_starts s p i r h y (posted_one (sent r.sent) (posted r.sent) y (processor_posts s p i r h) there) n q c in
         called (omega (arith, x.0))
-        (subst (λ (k : ℕ). q ≡ next_number w k) (sym x.0) (x.1 ∙ sym (next_of p small)))
+        (subst (λ (k : ℕ). q ≡ next_number w k) (sym x.0) (x.1 ∙ sym (processor_own w p small)))
         (subst (λ (k : ℕ). y.clock ≡ now w k) (sym x.0) (x.2 ∙ sym (now_of p small)))
         x.3
 
@@ -137,7 +128,7 @@ module _ {A B : Type 0} (w : World A B) where
     at_messages f m told comes =
         by_processors
         (λ x does.
-        let k = processor_interrupted s p i r h m told (int_place f m comes.well (processor_interrupts s p i r h m told x does) ∙ comes.receiver) x does in
+        let k = processor_interrupted s p i r h m told (interrupt_place f m comes.well (processor_interrupts s p i r h m told x does) ∙ comes.receiver) x does in
         delivered comes.at m comes.there comes.turn k.0 k.1 k.2)
         (λ d two none.
         ⊎_elim

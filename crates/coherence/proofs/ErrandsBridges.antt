@@ -27,6 +27,7 @@ use Rattle.std.specs.Option.{option_to_list}
 use Rattle.trail.specs.declared.entry.Entry.{Entry}
 use Rattle.coherence.proofs.Carrying.{is_errand, is_block_request, carries, block_access, carried_access, entry_access}
 use Rattle.coherence.proofs.ErrandsProcessors.{carries_errand}
+use Rattle.coherence.proofs.FormsBuilt.{no_nack}
 use Rattle.coherence.proofs.Posting.{posted}
 use Rattle.coherence.proofs.Tally.{crosses}
 use Rattle.coherence.specs.Histories.{access}
@@ -136,9 +137,6 @@ module _ {S : Type 0} (m : Meaning S) where
           let block = errand_block y.kind asks e.0 in
           (carried nack back block (omega (arith, e.2, again.1)) (omega (arith, e.1, again.0)), same_access nack back asks block again.2, again.3, sym e.1 ∙ again.0, is_it y asks block)
         where
-          no_nack : (k : Kind) → is_request k ≡ true → same_kind k kind.Nack ≡ false
-          no_nack k asks = grind (arith, nat_tests)
-
           errand_block : (k : Kind) → is_request k ≡ true → is_errand k ≡ true → is_block_request k ≡ true
           errand_block k asks errand = grind (arith, nat_tests)
 

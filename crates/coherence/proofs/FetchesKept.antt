@@ -18,16 +18,17 @@ use Rattle.ordering.specs.declared.order.Access.{Access}
 use Rattle.processor.specs.Slots.{slot_at, is_awaited}
 use Rattle.std.proofs.lemmas.Bool.{both_ways, and_parts, eqb-true}
 use Rattle.std.proofs.lemmas.Bool.Decides.{nat_tests}
+use Rattle.std.proofs.lemmas.Option.{same_Some}
 use Rattle.trail.specs.declared.entry.Entry.{Entry}
 use Rattle.coherence.proofs.Arising.{never}
 use Rattle.coherence.proofs.Carrying.{carries, serves, entry_access, carried_access}
 use Rattle.coherence.proofs.Clocks.{Timely}
 use Rattle.coherence.proofs.Counting.{indicator, indicator_most}
 use Rattle.coherence.proofs.Errands.{Errands, Does, on_memory, on_own, delivered, gathered}
+use Rattle.coherence.proofs.FormsNodes.{no_device}
 use Rattle.coherence.proofs.Growing.{now_on, stamped_now, trail_either, messages_either}
 use Rattle.coherence.proofs.Orderly.{is_memory, fetches, reaches, asks_about, gathers_for, now, requests_at, InLine, Known}
 use Rattle.coherence.proofs.Recording.{grown}
-use Rattle.coherence.proofs.Rising.{same_element}
 use Rattle.coherence.proofs.Seats.{seat}
 use Rattle.coherence.proofs.Settling.{io_seat, past_at, seated_at}
 use Rattle.coherence.proofs.Slots.{awaits}
@@ -62,9 +63,6 @@ is_fetch p d y h =
 pub ldio_is : (o : Operation) → is LdIo o ≡ true → (is_io o ≡ true) × (is_memory o ≡ false) × (is_block o ≡ false)
 ldio_is o h = (grind (arith, nat_tests), grind (arith, nat_tests), grind (arith, nat_tests))
 
-no_device : (n : ℕ) → n < 4 → is_device n ≡ true → ⊥
-no_device n small device = grind (arith, nat_tests)
-
 rio_crosses : (m : Message ℕ) (p r : ℕ) → same_kind m.kind kind.Rio ≡ true → m.sender ≡ p → m.receiver ≡ r → crosses 7 p r m ≡ true
 rio_crosses m p r rio from to = grind (arith, nat_tests)
 
@@ -86,7 +84,7 @@ module _ {A B : Type 0} (ma : Meaning A) (mb : Meaning B) (f : Figures) (h : His
     where
       go : Fetch p d y → Does h.world y → (m : Message ℕ) × Stands h.world.messages m × (crosses 7 p (device_node d) m ≡ true) × (y.sequence ≡ m.sequence)
       go k (on_memory low memory space rest) = absurd (both_ways (is_memory y.operation) (ldio_is y.operation k.ldio).1 memory)
-      go k (on_own device io space) = absurd (no_device y.party (subst (λ (n : ℕ). n < 4) (sym k.by) small) device)
+      go k (on_own device io space) = absurd (both_ways (is_device y.party) (no_device y.party (subst (λ (n : ℕ). n < 4) (sym k.by) small)) device)
       go k (gathered b low served goes past) =
           absurd (both_ways (is_block y.operation) (ldio_is y.operation k.ldio).2 (subst (λ (a : Access). is_block a.operation ≡ true) goes (serves_block b (home_at h.world b))))
       go k (delivered i m at turn c goes past) =
@@ -160,7 +158,7 @@ module _ {A B : Type 0} (ma : Meaning A) (mb : Meaning B) (f : Figures) (c : Cal
           omega arith
       go (inr now_sent) (inr new) =
           let b = runs.values p d small two m now_sent value in
-          let same = ap (λ (x : Entry). x.stamp.global) (same_element y b.entry (sym new ∙ b.does)) in
+          let same = ap (λ (x : Entry). x.stamp.global) (same_Some y b.entry (sym new ∙ b.does)) in
           let clock : m.clock ≡ b.entry.stamp.global = b.clock in
           omega arith
 

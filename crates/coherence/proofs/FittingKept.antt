@@ -15,10 +15,10 @@ use Rattle.processor.specs.declared.slot.Slot.TheVariants.{Free}
 use Rattle.processor.specs.declared.state.Processor.{Processor}
 use Rattle.std.proofs.lemmas.Bool.{and_parts, eqb-true, lt-ltb, both_ways}
 use Rattle.std.proofs.lemmas.Bool.Decides.{nat_tests}
+use Rattle.std.proofs.lemmas.Option.{same_Some}
 use Rattle.coherence.proofs.Arising.{never, came}
 use Rattle.coherence.proofs.Meeting.{Asks, Meets, at_call, at_first_wish, at_second_wish, to_processor, to_home, to_first, to_second}
 use Rattle.coherence.proofs.Orderly.{processor_issues, device_issues, is_fitting}
-use Rattle.coherence.proofs.Rising.{same_element}
 use Rattle.coherence.specs.Histories.{Issued, issues, own, access, is_ldio, wish_access, wished}
 use Rattle.coherence.specs.Steps.{Effect}
 use Rattle.coherence.specs.Worlds.{World, processor_at}
@@ -56,8 +56,8 @@ module _ {A B : Type 0} (ma : Meaning A) (mb : Meaning B) (w : World A B) where
 
   as_issued : (c : Call) (y : Issued) → issues ma mb c w ≡ Some y → is_fitting y ≡ true → ((p d : ℕ) → p < 4 → d < 2 → is_ldio p d y ≡ true → slot_at (processor_at w p).slots d ≡ Free) → IssuesWell c
   as_issued c y issue fits free = record {
-    fits = λ x new. subst (λ (z : Issued). is_fitting z ≡ true) (same_element y x (sym issue ∙ new)) fits;
-    free = λ x new p d small two ldio. free p d small two (subst (λ (z : Issued). is_ldio p d z ≡ true) (sym (same_element y x (sym issue ∙ new))) ldio);
+    fits = λ x new. subst (λ (z : Issued). is_fitting z ≡ true) (same_Some y x (sym issue ∙ new)) fits;
+    free = λ x new p d small two ldio. free p d small two (subst (λ (z : Issued). is_ldio p d z ≡ true) (sym (same_Some y x (sym issue ∙ new))) ldio);
   }
 
   no_ldio : (q : ℕ) (a : Access) → is operation.LdIo a.operation ≡ false → (p d : ℕ) → p < 4 → d < 2 → is_ldio p d (own ma mb w q a) ≡ true → slot_at (processor_at w p).slots d ≡ Free

@@ -16,11 +16,9 @@ use Rattle.bridge.specs.declared.plan.Plan.{Plan}
 use Rattle.bridge.specs.declared.state.Bridge.{Bridge}
 use Rattle.device.specs.Meaning.{Meaning}
 use Rattle.device.specs.declared.meaning.Wish.{Wish}
-use Rattle.message.proofs.Soundness.{well_formed_are_sound}
 use Rattle.message.specs.Checks.{has_processor, word_count, all_are_zero}
 use Rattle.message.specs.Forms.{row, returned}
 use Rattle.message.specs.Kinds.{is_request}
-use Rattle.message.specs.Laws.{comes_from_home, goes_home}
 use Rattle.message.specs.Nodes.{home_node, device_node, is_device}
 use Rattle.message.specs.Reactions.{sent}
 use Rattle.message.specs.Requests.{out, is_out}
@@ -38,7 +36,7 @@ use Rattle.ordering.specs.declared.operation.Words.{Words}
 use Rattle.std.proofs.lemmas.Bool.{and_parts, and_from, and_left, cond_both, both_ways, or_right, ltb-true, lt-ltb, eq-eqb}
 use Rattle.std.specs.List.{AllByRecursion as All}
 use Rattle.coherence.proofs.Arising.{never}
-use Rattle.coherence.proofs.FormsBuilt.{Well, Fits, fits_by, as_row, as_back, home_end, global_within, number_below, taken_well}
+use Rattle.coherence.proofs.FormsBuilt.{Well, Fits, fits_by, as_row, as_back, home_end, global_within, number_below, taken_well, from_home}
 use Rattle.coherence.specs.Steps.{bridge_within}
 
 -- What may come to the bridge of device d: a wish on this board, and well-formed messages to it.
@@ -155,12 +153,6 @@ module _ {S : Type 0} (m : Meaning S) (f : Figures) (d : ℕ) (device : is_devic
       go kind.Taken a fit = absurd (both_ways false refl a)
 
   module _ (b : Bridge S ℕ) (x : Message ℕ) (form : Well f x) (to : x.receiver ≡ device_node d) where
-    from_home : (k : Kind) → x.kind ≡ k → comes_from_home k ≡ true → (x.sender ≡ home_node x.place) × (x.place < 16)
-    from_home k is comes =
-        let sound = well_formed_are_sound f x form in
-        let c : comes_from_home x.kind ≡ true = subst (λ (j : Kind). comes_from_home j ≡ true) (sym is) comes in
-        (sound.sender c, sound.block (or_right (goes_home x.kind) (comes_from_home x.kind) c))
-
     asked_well : (a : Deed) → DeedWell f d a → KnownWell f d (asked m b x a)
     asked_well a well = cond_both (ltb x.place (acts.word_count m b)) _ None (KnownWell f d) (λ _ _. well) (λ _. tt)
 
@@ -181,8 +173,8 @@ module _ {S : Type 0} (m : Meaning S) (f : Figures) (d : ℕ) (device : is_devic
         let fit = (as_row f x kind.Rio is refl form).0 in
         asked_well (Read (asked_access x)) (subst (λ (n : ℕ). ltb x.place (word_count f n) ≡ true) to fit.receiver, fit.sender)
     by_kind kind.Wio is = asked_well (Write (asked_access x) (first_word x.words)) tt
-    by_kind kind.Done is = replied_well kind.Wblk (Finish x.sender x.place) (from_home kind.Done is refl)
-    by_kind kind.Words is = replied_well kind.Rblk (Land x.sender x.place x.words) (from_home kind.Words is refl)
+    by_kind kind.Done is = replied_well kind.Wblk (Finish x.sender x.place) (from_home f x form kind.Done is refl)
+    by_kind kind.Words is = replied_well kind.Rblk (Land x.sender x.place x.words) (from_home f x form kind.Words is refl)
     by_kind kind.Nack is = refused_well is x.refused refl
     by_kind kind.Gets is = tt
     by_kind kind.Getx is = tt

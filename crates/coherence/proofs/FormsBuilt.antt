@@ -1,8 +1,10 @@
 -- Well-formed messages taken apart and put together: by the form of the kind, part by part.
-use Rattle.std.proofs.Common.{◌≡◌, ℕ, ◌+◌, ◌<◌, Bool, true, false, cond, ◌&&◌, ◌||◌, eqb, ltb, leb, Some, None, Option, sym, refl, subst, arith}
+use Rattle.std.proofs.Common.{◌≡◌, ℕ, ◌+◌, ◌<◌, Bool, true, false, cond, ◌&&◌, ◌||◌, eqb, ltb, leb, Some, None, Option, sym, refl, ap, ◌∙◌, subst, arith}
+use Rattle.message.proofs.Soundness.{well_formed_are_sound}
 use Rattle.message.specs.Checks.{has_processor, end_fits, words_fit, numbers_fit, fits, well_formed}
 use Rattle.message.specs.Forms.{form_of, row, returned}
 use Rattle.message.specs.Kinds.{same_kind, is_request}
+use Rattle.message.specs.Laws.{comes_from_home, goes_home}
 use Rattle.message.specs.Messages.{plain}
 use Rattle.message.specs.Nodes.{home_node, is_device}
 use Rattle.message.specs.declared.figures.Figures.{Figures}
@@ -13,7 +15,8 @@ use Rattle.message.specs.declared.kind.Kind.TheVariants as kind
 use Rattle.message.specs.declared.message.Message.{Message}
 use Rattle.ordering.specs.Clocks.{number_end, is_within}
 use Rattle.ordering.specs.declared.clock.Clock.{Clock}
-use Rattle.std.proofs.lemmas.Bool.{and_parts, and_from, both_ways, lt-ltb, eq-eqb, leb-true, le-leb}
+use Rattle.std.proofs.lemmas.Bool.{and_parts, and_from, both_ways, lt-ltb, eq-eqb, leb-true, le-leb, or_right}
+use Rattle.std.proofs.lemmas.Bool.Decides.{nat_tests}
 
 abbrev pub Well : Figures → Message ℕ → Type 0
 Well f m = well_formed f m ≡ true
@@ -87,3 +90,16 @@ number_below s h = let le = leb-true (s + 1) (number_end + 1) h in le-leb s numb
 pub taken_well : (f : Figures) (n h b : ℕ) → (has_processor f n || is_device n) ≡ true → h ≡ home_node b → b < 16 → Well f (plain kind.Taken n h b)
 taken_well f n h b own is small =
     fits_by f (row kind.Taken) (plain kind.Taken n h b) (record { sender = own; receiver = home_end_at f h b is small; words = refl; numbers = refl })
+
+-- what comes from the home of a block, and what is given back
+pub from_home : (f : Figures) (m : Message ℕ) → Well f m → (k : Kind) → m.kind ≡ k → comes_from_home k ≡ true → (m.sender ≡ home_node m.place) × (m.place < 16)
+from_home f m well k is comes =
+    let sound = well_formed_are_sound f m well in
+    let c : comes_from_home m.kind ≡ true = ap comes_from_home is ∙ comes in
+    (sound.sender c, sound.block (or_right (goes_home m.kind) (comes_from_home m.kind) c))
+
+pub no_nack : (k : Kind) → is_request k ≡ true → same_kind k kind.Nack ≡ false
+no_nack k asks = grind (arith, nat_tests)
+
+pub refuses_requests : (f : Figures) (m : Message ℕ) → Well f m → (k : Kind) → m.refused ≡ Some k → is_request k ≡ true
+refuses_requests f m well k is = grind (arith, nat_tests)

@@ -15,7 +15,7 @@ use Rattle.home.specs.declared.request.Request.{Request}
 use Rattle.message.proofs.Soundness.{well_formed_are_sound}
 use Rattle.message.specs.Checks.{has_processor}
 use Rattle.message.specs.Forms.{row}
-use Rattle.message.specs.Kinds.{same_kind, is_request}
+use Rattle.message.specs.Kinds.{is_request}
 use Rattle.message.specs.Nodes.{home_node}
 use Rattle.message.specs.declared.figures.Figures.{Figures}
 use Rattle.message.specs.declared.kind.Kind.{Kind}
@@ -23,8 +23,7 @@ use Rattle.message.specs.declared.kind.Kind.TheVariants as kind
 use Rattle.message.specs.declared.message.Message.{Message}
 use Rattle.message.proofs.Tables.{put_read}
 use Rattle.std.proofs.lemmas.Bool.{cond_both, both_ways, or_left, cases_Bool}
-use Rattle.std.proofs.lemmas.Bool.Decides.{nat_tests}
-use Rattle.coherence.proofs.FormsBuilt.{Well, Fits, as_row}
+use Rattle.coherence.proofs.FormsBuilt.{Well, Fits, as_row, no_nack}
 
 -- The message that a request came as, to the home of block b.
 abbrev pub asked_of : ℕ → Request → Message ℕ
@@ -52,15 +51,12 @@ pub record HomeWell (f : Figures) (b : ℕ) (h : Home ℕ) : Type 0 where
   pub awaited : OnBoard f (round_of h.directory).awaited
   pub request : is_free h ≡ false → RequestWell f b (round_of h.directory).request
 
-request_row : (k : Kind) → is_request k ≡ true → same_kind k kind.Nack ≡ false
-request_row k h = grind (arith, nat_tests)
-
 no_ack : (k : Kind) → is_request k ≡ true → k ≡ kind.Ack → ⊥
 no_ack k h is = both_ways (is_request kind.Ack) refl (subst (λ (j : Kind). is_request j ≡ true) is h)
 
 -- the form of a request that was taken
 pub request_fits : (f : Figures) (b : ℕ) (r : Request) → RequestWell f b r → Fits f (row r.kind) (asked_of b r)
-request_fits f b r w = (as_row f (asked_of b r) r.kind refl (request_row r.kind w.asks) w.well).0
+request_fits f b r w = (as_row f (asked_of b r) r.kind refl (no_nack r.kind w.asks) w.well).0
 
 -- a well-formed request is kept as it came
 pub request_kept : (f : Figures) (b : ℕ) (m : Message ℕ) → Well f m → m.receiver ≡ home_node b → is_request m.kind ≡ true → RequestWell f b (request_of m)
@@ -68,7 +64,7 @@ request_kept f b m well to asks =
     let sound = well_formed_are_sound f m well in
     let place : m.place ≡ b = (let e = sound.receiver (or_left (is_request m.kind) _ asks) in omega arith) in
     let plain : m.exclusive ≡ false = ⊎_elim (λ t. absurd (no_ack m.kind asks (sound.mark t))) (λ n. n) (cases_Bool m.exclusive) in
-    let nothing = (as_row f m m.kind refl (request_row m.kind asks) well).1 in
+    let nothing = (as_row f m m.kind refl (no_nack m.kind asks) well).1 in
     let G : ℕ → ℕ → Bool → Option Kind → Type 0 =
     λ r p x o. Well f (record { kind = m.kind; sender = m.sender; receiver = r; place = p; words = m.words; clock = m.clock; sequence = m.sequence; exclusive = x; refused = o }) in
     let g0 : G m.receiver m.place m.exclusive m.refused = well in

@@ -10,7 +10,7 @@ use Rattle.message.specs.declared.form.Form.{Form}
 use Rattle.message.specs.declared.message.Message.{Message}
 use Rattle.message.specs.declared.node.Node.{Node}
 use Rattle.message.specs.declared.node.Node.TheVariants as node
-use Rattle.std.proofs.lemmas.Bool.{ltb-true, leb-true, ltb-false, eqb-true, ne_eqb, and_parts, or_cases, both_ways}
+use Rattle.std.proofs.lemmas.Bool.{ltb-true, leb-true, ltb-false, eqb-true, ne_eqb, and_parts, or_cases, both_ways, or_from}
 use Rattle.coherence.proofs.Arising.{never}
 use Rattle.coherence.proofs.FormsBuilt.{Well, fits_parts}
 
@@ -56,13 +56,13 @@ home_number n b h = go (ltb n 4) (ltb n 6) (leb 16 n && ltb n 32) refl h
     go false false false small h = never cc
 
 -- a processor that a well-formed message goes to is on the board
-no_device : (n : ℕ) → n < 4 → is_device n ≡ true → ⊥
-no_device n small h = ⊎_elim (λ x. let e = eqb-true n 4 x in omega arith) (λ x. let e = eqb-true n 5 x in omega arith) (or_cases (eqb n 4) (eqb n 5) h)
+pub no_device : (n : ℕ) → n < 4 → is_device n ≡ false
+no_device n small = or_from (eqb n 4) (eqb n 5) (ne_eqb n 4 (λ is. omega arith)) (ne_eqb n 5 (λ is. omega arith))
 
 end_on_board : (f : Figures) (e : End) (n p : ℕ) → n < 4 → end_fits f e n p ≡ true → has_processor f n ≡ true
 end_on_board f end.Processor n p small h = h
-end_on_board f end.Device n p small h = absurd (no_device n small h)
-end_on_board f end.Requester n p small h = ⊎_elim (λ x. x) (λ x. absurd (no_device n small x)) (or_cases (has_processor f n) (is_device n) h)
+end_on_board f end.Device n p small h = absurd (both_ways (is_device n) (no_device n small) h)
+end_on_board f end.Requester n p small h = ⊎_elim (λ x. x) (λ x. absurd (both_ways (is_device n) (no_device n small) x)) (or_cases (has_processor f n) (is_device n) h)
 end_on_board f end.Home n p small h = absurd (let e = eqb-true n (home_node p) (and_parts (ltb p 16) (eqb n (home_node p)) h).1 in let no_way : ⊥ = omega arith in no_way)
 end_on_board f end.Owner n p small h =
     let none : word_count f n ≡ 0 = rw (ne_eqb n 4 (omega arith), ne_eqb n 5 (omega arith)) refl in

@@ -1,29 +1,21 @@
 -- The numbers of every node at rest are within their end: a call that would take one past it is not committed.
-use Rattle.std.proofs.Common.{◌≡◌, ℕ, ◌+◌, ◌<◌, ◌≤◌, true, ◌&&◌, leb, List, length, get_or, set, replicate, sym, refl, ap, ◌∙◌, subst, ⊎_elim, arith}
+use Rattle.std.proofs.Common.{◌≡◌, ℕ, ◌+◌, ◌<◌, true, ◌&&◌, leb, List, length, get_or, set, replicate, sym, refl, ap, ◌∙◌, subst, ⊎_elim, arith}
 use Rattle.device.specs.Meaning.{Meaning}
 use Rattle.home.specs.Homes.{new_home}
 use Rattle.home.specs.declared.machine.Home.{Home}
 use Rattle.message.specs.declared.message.Message.{Message}
 use Rattle.ordering.specs.Clocks.{number_end, is_within}
-use Rattle.ordering.specs.declared.clock.Clock.{Clock}
 use Rattle.processor.specs.States.{made, numbers_within}
 use Rattle.processor.specs.declared.state.Processor.{Processor}
 use Rattle.std.proofs.lemmas.List.FromFn.{get_or-map-range_with_len}
 use Rattle.std.proofs.lemmas.List.{get_or-set_same, get_or-set_other, get_or_past, get_or-replicate}
-use Rattle.std.proofs.lemmas.Bool.{leb-true, and_parts, and_from, cases_lt, cases_eq}
+use Rattle.std.proofs.lemmas.Bool.{and_parts, and_from, cases_lt, cases_eq}
 use Rattle.coherence.proofs.Arising.{Arises, at_processor, at_home, at_first, at_second}
 use Rattle.coherence.proofs.Clocks.{Shape}
 use Rattle.coherence.proofs.Stepping.{after}
 use Rattle.coherence.specs.Makings.{Making, rest_fits, is_fit, make, block_words}
 use Rattle.coherence.specs.Steps.{Effect, bridge_within}
 use Rattle.coherence.specs.Worlds.{World, processor_at, home_at, no_processor, no_home}
-
--- what the test of a processor's or a bridge's numbers says
-pub numbers_parts : (c : Clock ℕ) (q : ℕ) → (is_within c && leb q (number_end + 1)) ≡ true → (c.global ≤ number_end) × (c.local ≤ number_end) × (q ≤ number_end + 1)
-numbers_parts c q h =
-    let a = and_parts (is_within c) (leb q (number_end + 1)) h in
-    let b = and_parts (leb c.global number_end) (leb c.local number_end) a.0 in
-    (leb-true c.global number_end b.0, leb-true c.local number_end b.1, leb-true q (number_end + 1) a.1)
 
 -- What each of a table has, once one is replaced by what has it too.
 pub each_set : {X : Type 0} (P : X → Type 0) (xs : List X) (i : ℕ) (x d : X) → i < length xs → P x → ((j : ℕ) → P (get_or xs j d)) → (j : ℕ) → P (get_or (set xs i x) j d)

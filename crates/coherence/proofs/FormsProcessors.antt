@@ -1,10 +1,8 @@
 -- What a processor of the board sends is well formed.
 use Rattle.std.proofs.Common.{◌≡◌, ℕ, ◌+◌, ◌<◌, Bool, true, false, ◌&&◌, ◌||◌, ltb, leb, IfSome, Some, None, Option, sym, refl, subst, arith}
-use Rattle.message.proofs.Soundness.{well_formed_are_sound}
 use Rattle.message.specs.Checks.{has_processor, word_count, all_are_zero}
 use Rattle.message.specs.Forms.{row}
 use Rattle.message.specs.Kinds.{kind_number}
-use Rattle.message.specs.Laws.{Sound, comes_from_home, goes_home}
 use Rattle.message.specs.Messages.{plain}
 use Rattle.message.specs.Nodes.{home_node, device_node, node_numbered}
 use Rattle.message.specs.Reactions.{sent, silent, single}
@@ -32,10 +30,10 @@ use Rattle.processor.specs.declared.line.Line.TheVariants.{Invalid, Shared, Excl
 use Rattle.processor.specs.declared.slot.Slot.{Slot}
 use Rattle.processor.specs.declared.slot.Slot.TheVariants as slot
 use Rattle.processor.specs.declared.state.Processor.{Processor}
-use Rattle.std.proofs.lemmas.Bool.{and_parts, and_from, or_left, or_right, cond_both, both_ways, ltb-true}
+use Rattle.std.proofs.lemmas.Bool.{and_parts, and_from, or_left, cond_both, both_ways, ltb-true}
 use Rattle.std.proofs.lemmas.Bool.Decides.{nat_tests}
 use Rattle.std.specs.List.{AllByRecursion as All}
-use Rattle.coherence.proofs.FormsBuilt.{Well, fits_by, home_end, home_end_at, global_within, number_below, taken_well}
+use Rattle.coherence.proofs.FormsBuilt.{Well, fits_by, home_end, home_end_at, global_within, number_below, taken_well, from_home}
 
 -- What may come to a processor: a word that the device has, and messages that are well formed.
 abbrev pub Allowed : Figures → Input → Type 0
@@ -115,14 +113,6 @@ module _ (f : Figures) (n : ℕ) (own : has_processor f n ≡ true) where
   value_well s from v c (Some (node.Home b)) is = rw (is, fetched_from) tt
 
   module _ (s : Processor ℕ) (m : Message ℕ) (well : Well f m) where
-    sound : Sound m
-    sound = well_formed_are_sound f m well
-
-    from_home : (k : Kind) → m.kind ≡ k → comes_from_home k ≡ true → (m.sender ≡ home_node m.place) × (m.place < 16)
-    from_home k is comes =
-        let c : comes_from_home m.kind ≡ true = subst (λ (j : Kind). comes_from_home j ≡ true) (sym is) comes in
-        (sound.sender c, sound.block (or_right (goes_home m.kind) (comes_from_home m.kind) c))
-
     by_kind : (k : Kind) → m.kind ≡ k → ToldWell f (receive_kind k s n m)
     by_kind kind.Gets is = tt
     by_kind kind.Getx is = tt
@@ -133,18 +123,18 @@ module _ (f : Figures) (n : ℕ) (own : has_processor f n ≡ true) where
     by_kind kind.Rio is = tt
     by_kind kind.Wio is = tt
     by_kind kind.Int is = λ _. tt
-    by_kind kind.Inv is = let h = from_home kind.Inv is refl in inv_well s m h.0 h.1 (line_at s.lines m.place) refl
-    by_kind kind.Down is = let h = from_home kind.Down is refl in down_well s m h.0 h.1 (line_at s.lines m.place) refl
+    by_kind kind.Inv is = let h = from_home f m well kind.Inv is refl in inv_well s m h.0 h.1 (line_at s.lines m.place) refl
+    by_kind kind.Down is = let h = from_home f m well kind.Down is refl in down_well s m h.0 h.1 (line_at s.lines m.place) refl
     by_kind kind.Ack is = tt
     by_kind kind.SData is =
-        let h = from_home kind.SData is refl in
+        let h = from_home f m well kind.SData is refl in
         cond_both (is_out s.requests m.place kind.Gets) _ None (ToldWell f) (λ _. line_well s m h.0 h.1 (Shared m.words)) (λ _. tt)
     by_kind kind.XData is =
-        let h = from_home kind.XData is refl in
+        let h = from_home f m well kind.XData is refl in
         cond_both (is_out s.requests m.place kind.Getx) _ None (ToldWell f) (λ _. line_well s m h.0 h.1 (Exclusive m.words)) (λ _. tt)
-    by_kind kind.Grant is = let h = from_home kind.Grant is refl in grant_well s m h.0 h.1 (line_at s.lines m.place) refl
+    by_kind kind.Grant is = let h = from_home f m well kind.Grant is refl in grant_well s m h.0 h.1 (line_at s.lines m.place) refl
     by_kind kind.Done is =
-        let h = from_home kind.Done is refl in
+        let h = from_home f m well kind.Done is refl in
         cond_both (is_out s.requests m.place kind.Wb) _ None (ToldWell f) (λ _. takes_well s m.sender m.place m.clock h.0 h.1) (λ _. tt)
     by_kind kind.Words is = tt
     by_kind kind.Value is = value_well s m.sender (first_word m.words) m.clock (node_numbered m.sender) refl

@@ -8,6 +8,7 @@ use Rattle.ordering.specs.Clocks.{Earlier}
 use Rattle.ordering.specs.declared.clock.Clock.{Clock}
 use Rattle.ordering.specs.declared.order.Access.{Access}
 use Rattle.std.proofs.lemmas.Bool.{cases_eq}
+use Rattle.std.proofs.lemmas.Option.{same_Some}
 use Rattle.std.specs.Option.{option_to_list}
 use Rattle.trail.specs.declared.entry.Entry.{Entry}
 use Rattle.coherence.proofs.Carrying.{carried_access, served_access, issued_as}
@@ -15,7 +16,6 @@ use Rattle.coherence.proofs.Clocks.{clock_at, Timely}
 use Rattle.coherence.proofs.Errands.{Carrier, in_message, in_home}
 use Rattle.coherence.proofs.Orderly.{Cleared, DoneBy, now, InLine, Known}
 use Rattle.coherence.proofs.Recording.{grown}
-use Rattle.coherence.proofs.Rising.{same_element}
 use Rattle.coherence.proofs.Standing.{stands_all, stands_on, stands_new, stands_either, stands_only, stands_some, stands_removed, pairs_stand}
 use Rattle.coherence.specs.Histories.{History, Issued, issues}
 use Rattle.coherence.specs.Promise.{Stands}
@@ -93,7 +93,7 @@ module _ {A B : Type 0} (ma : Meaning A) (mb : Meaning B) where
         go (inl old) k = old
         go (inr new) (inl old) = let l = comes_last y z old new (sym party) in absurd (let no_way : ⊥ = omega arith in no_way)
         go (inr new) (inr also) =
-            let same = ap (λ (x : Issued). x.sequence) (same_element z y (sym new ∙ also)) in
+            let same = ap (λ (x : Issued). x.sequence) (same_Some z y (sym new ∙ also)) in
             absurd (let no_way : ⊥ = omega arith in no_way)
 
     pub done_on : (n s k j : ℕ) → k ≤ j → DoneBy w.trail n s k → DoneBy h'.world.trail n s j

@@ -10,7 +10,6 @@ use Rattle.ordering.specs.Stamps.{below}
 use Rattle.ordering.specs.declared.operation.Operation.TheVariants.{LdIo, Int}
 use Rattle.ordering.specs.declared.order.Access.{Access}
 use Rattle.ordering.specs.declared.order.Party.{Party}
-use Rattle.ordering.specs.declared.stamp.Stamp.{Stamp}
 use Rattle.std.proofs.lemmas.Bool.{cases_Bool, and_parts, and_from, or_cases, eq-eqb}
 use Rattle.std.proofs.lemmas.Bool.Decides.{nat_tests}
 use Rattle.trail.specs.declared.entry.Entry.{Entry}
@@ -18,6 +17,7 @@ use Rattle.coherence.proofs.Carrying.{entry_access, carried_access, served_acces
 use Rattle.coherence.proofs.Channels.{io_before, int_before}
 use Rattle.coherence.proofs.Clocks.{Timely}
 use Rattle.coherence.proofs.Dating.{Dated}
+use Rattle.coherence.proofs.Entering.{below_by_global}
 use Rattle.coherence.proofs.Errands.{Errands, Does, on_memory, on_own, delivered, gathered}
 use Rattle.coherence.proofs.Growing.{now_on, stamped_now, trail_on, trail_new, trail_either, issued_either, comes_last, lower_stands}
 use Rattle.coherence.proofs.OrderTables.{before_memory, before_own}
@@ -33,9 +33,6 @@ use Rattle.coherence.specs.Promise.{Stands, Done, InOrder, party_of}
 use Rattle.coherence.specs.Steps.{Effect}
 use Rattle.coherence.specs.Worlds.{World, processor_at, home_at}
 use Rattle.coherence.specs.declared.call.Call.{Call}
-
-below_global : (s t : Stamp) → s.global < t.global → below s t ≡ true
-below_global s t lt = grind (arith, nat_tests)
 
 channel_ways : (z a : Access) → by_channel z a ≡ true
     → ((is_io z.operation ≡ true) × (is_io a.operation ≡ true)) ⊎ ((is Int z.operation ≡ true) × (is Int a.operation ≡ true))
@@ -96,7 +93,7 @@ module _ {A B : Type 0} (ma : Meaning A) (mb : Meaning B) (f : Figures) (c : Cal
 
     by_clock : (z : Issued) (k : ℕ) → DoneBy w.trail z.party z.sequence k → k < x.stamp.global → Ready z
     by_clock z k y past =
-        (record { entry = y.entry; stands = y.stands; by = y.by; numbered = y.numbered }, below_global y.entry.stamp x.stamp (let d = y.dated in omega arith))
+        (record { entry = y.entry; stands = y.stands; by = y.by; numbered = y.numbered }, below_by_global y.entry.stamp x.stamp (let d = y.dated in omega arith))
 
     module _ (z : Issued) (sz : Stands h.issued z) (party : z.party ≡ x.party) (lower : z.sequence < x.sequence) (before : ordered (party_of x.party) z.access (entry_access x) ≡ true) where
       ready : Does w x → Ready z
@@ -117,7 +114,7 @@ module _ {A B : Type 0} (ma : Meaning A) (mb : Meaning B) (f : Figures) (c : Cal
           let now_is = stamped_now ma mb f c h e known later time x new in
           let at : x.stamp.node ≡ z.party = at_seat ∙ memory_seat x (entry_access x) refl memory ∙ sym party in
           let same = ap (now w) at in
-          from_found z y (below_global y.entry.stamp x.stamp (omega arith)))
+          from_found z y (below_by_global y.entry.stamp x.stamp (omega arith)))
           (cases_Bool (is_memory z.access.operation))
       ready (on_own device io space) =
           let own = subst (λ (n : ℕ). is_device n ≡ true) (sym party) device in

@@ -30,6 +30,7 @@ use Rattle.coherence.proofs.Moves.{Moves, Takes, OutPut, OutsStay, rests, reques
 use Rattle.coherence.proofs.MovesDeliveries.{nack_token}
 use Rattle.coherence.proofs.MovesWishes as wishes
 use Rattle.coherence.proofs.Posts.{kept_added, kept_one, kept_not, kept_still, posted_call, posted_delivery}
+use Rattle.coherence.proofs.Shifts.{put_same}
 use Rattle.coherence.proofs.Wishes.{Lawful}
 
 -- a block request by its class
@@ -147,17 +148,13 @@ module _ (b : ℕ) (low : b < 16) (x y : Block) (n : ℕ) (device : 4 ≤ n) (tw
             class = class;
             end = end;
             onward = λ small. absurd (omega arith);
-            lines = λ q. lines q ∙ same_line q (cases_Bool (eqb n q));
+            lines = λ q. lines q ∙ sym (put_same n q x.line);
             outs = λ q. outs q ∙ ap (λ (o : Option Kind). cond (eqb n q) o (x.out q)) now;
             clocks = λ q. let c = clocks q in omega arith;
             home = home;
             messages = posted _ here one;
             trail = trail_stays (Receive e) h;
           }
-        where
-          same_line : (q : ℕ) → (eqb n q ≡ true) ⊎ (eqb n q ≡ false) → x.line q ≡ cond (eqb n q) (x.line n) (x.line q)
-          same_line q (inl at) = rw at (ap x.line (sym (eqb-true n q at)))
-          same_line q (inr apart) = rw apart refl
 
       -- a reply about another block
       takes_elsewhere : (k : Kind) → wishes.Ends m d br r k e → (e.place ≡ b → ⊥) → about b e ≡ false → reaction m d br (Receive e) ≡ Some r → Moves b x y

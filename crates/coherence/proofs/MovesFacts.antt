@@ -23,10 +23,8 @@ use Rattle.processor.specs.declared.line.Line.TheVariants.{Invalid, Shared, Excl
 use Rattle.processor.specs.declared.refusal.Refusal.TheVariants.{NotHeld, Unfit, RequestOut, Awaits}
 use Rattle.processor.specs.declared.state.Processor.{Processor}
 use Rattle.std.proofs.lemmas.Bool.{and_parts}
+use Rattle.std.proofs.lemmas.Option.{same_Some}
 use Rattle.coherence.proofs.Arising.{allowed, never}
-
-some_same : {X : Type 0} (x y : X) → Some x ≡ Some y → y ≡ x
-some_same x y h = let same : x ≡ y = cc in sym same
 
 module _ (s : Processor ℕ) (n : ℕ) (r : Reaction (Processor ℕ)) where
   -- A load reads a held line, a store writes an owned one.
@@ -41,7 +39,7 @@ module _ (s : Processor ℕ) (n : ℕ) (r : Reaction (Processor ℕ)) where
           → (ws : Words) × (held_words (line_at s.lines (block_of w)) ≡ Some ws) × (r ≡ load_done w ws)
       go None d is h = never cc
       go (Some ws) (Some d) is h = never cc
-      go (Some ws) None is h = (ws, is, some_same (load_done w ws) r h)
+      go (Some ws) None is h = (ws, is, sym (same_Some (load_done w ws) r h))
 
   abbrev pub store_done : ℕ → ℕ → Words → Reaction (Processor ℕ)
   store_done w v ws = doing (operation_entry s n St w v) None (at_line (block_of w) (Exclusive (with_word ws w v)) (operated s))
@@ -55,7 +53,7 @@ module _ (s : Processor ℕ) (n : ℕ) (r : Reaction (Processor ℕ)) where
       go Invalid d is h = never cc
       go (Shared ws) d is h = never cc
       go (Exclusive ws) (Some d) is h = never cc
-      go (Exclusive ws) None is h = (ws, is, some_same (store_done w v ws) r h)
+      go (Exclusive ws) None is h = (ws, is, sym (same_Some (store_done w v ws) r h))
 
   -- A request fits the line, and none was out.
   abbrev pub request_sent : ℕ → Kind → Reaction (Processor ℕ)
@@ -72,7 +70,7 @@ module _ (s : Processor ℕ) (n : ℕ) (r : Reaction (Processor ℕ)) where
       go true (Some j) is none h = never cc
       go true None is none h =
           let both = and_parts (ltb b 16) (fits (line_at s.lines b) k) is in
-          (both.0, both.1, none, some_same (request_sent b k) r h)
+          (both.0, both.1, none, sym (same_Some (request_sent b k) r h))
 
   module _ (h b : ℕ) where
     -- INV finds the line Shared or Exclusive, DOWN finds it Exclusive.
@@ -90,8 +88,8 @@ module _ (s : Processor ℕ) (n : ℕ) (r : Reaction (Processor ℕ)) where
               | Exclusive ws ↦ Some (giving_way s n h b Invalid true ws)
             ]) (Some r) → Invalidates
         go Invalid at is = never cc
-        go (Shared ws) at is = shared_copy ws at (some_same (giving_way s n h b Invalid false no_words) r is)
-        go (Exclusive ws) at is = owned_copy ws at (some_same (giving_way s n h b Invalid true ws) r is)
+        go (Shared ws) at is = shared_copy ws at (sym (same_Some (giving_way s n h b Invalid false no_words) r is))
+        go (Exclusive ws) at is = owned_copy ws at (sym (same_Some (giving_way s n h b Invalid true ws) r is))
 
     pub downgrades : downgraded s n h b ≡ Some r → (ws : Words) × (line_at s.lines b ≡ Exclusive ws) × (r ≡ giving_way s n h b (Shared ws) true ws)
     downgrades is = go (line_at s.lines b) refl is
@@ -101,7 +99,7 @@ module _ (s : Processor ℕ) (n : ℕ) (r : Reaction (Processor ℕ)) where
             → (ws : Words) × (line_at s.lines b ≡ Exclusive ws) × (r ≡ giving_way s n h b (Shared ws) true ws)
         go Invalid at is = never cc
         go (Shared ws) at is = never cc
-        go (Exclusive ws) at is = (ws, at, some_same (giving_way s n h b (Shared ws) true ws) r is)
+        go (Exclusive ws) at is = (ws, at, sym (same_Some (giving_way s n h b (Shared ws) true ws) r is))
 
     -- the request that is answered
     pub is_asked : (k : Kind) → is_out s.requests b k ≡ true → out s.requests b ≡ Some k
@@ -114,12 +112,12 @@ module _ (s : Processor ℕ) (n : ℕ) (r : Reaction (Processor ℕ)) where
     pub shares : (ws : Words) (c : ℕ) → shared s n h b ws c ≡ Some r → (out s.requests b ≡ Some kind.Gets) × (r ≡ taking_line s n h b c (Shared ws))
     shares ws c is =
         let x = allowed (is_out s.requests b kind.Gets) (Some (taking_line s n h b c (Shared ws))) r is in
-        (is_asked kind.Gets x.0, some_same (taking_line s n h b c (Shared ws)) r x.1)
+        (is_asked kind.Gets x.0, sym (same_Some (taking_line s n h b c (Shared ws)) r x.1))
 
     pub owns : (ws : Words) (c : ℕ) → owned s n h b ws c ≡ Some r → (out s.requests b ≡ Some kind.Getx) × (r ≡ taking_line s n h b c (Exclusive ws))
     owns ws c is =
         let x = allowed (is_out s.requests b kind.Getx) (Some (taking_line s n h b c (Exclusive ws))) r is in
-        (is_asked kind.Getx x.0, some_same (taking_line s n h b c (Exclusive ws)) r x.1)
+        (is_asked kind.Getx x.0, sym (same_Some (taking_line s n h b c (Exclusive ws)) r x.1))
 
     abbrev better : ℕ → Line → Outcome
     better c l = elim l [ Invalid ↦ None | Shared ws ↦ Some (taking_line s n h b c (Exclusive ws)) | Exclusive ws ↦ None ]
@@ -133,16 +131,16 @@ module _ (s : Processor ℕ) (n : ℕ) (r : Reaction (Processor ℕ)) where
 
         go : (l : Line) → line_at s.lines b ≡ l → better c l ≡ Some r → (ws : Words) × (line_at s.lines b ≡ Shared ws) × (r ≡ taking_line s n h b c (Exclusive ws))
         go Invalid at is = never cc
-        go (Shared ws) at is = (ws, at, some_same (taking_line s n h b c (Exclusive ws)) r is)
+        go (Shared ws) at is = (ws, at, sym (same_Some (taking_line s n h b c (Exclusive ws)) r is))
         go (Exclusive ws) at is = never cc
 
     pub gives_back : (c : ℕ) → done s n h b c ≡ Some r → (out s.requests b ≡ Some kind.Wb) × (r ≡ taking s n h b c)
     gives_back c is =
         let x = allowed (is_out s.requests b kind.Wb) (Some (taking s n h b c)) r is in
-        (is_asked kind.Wb x.0, some_same (taking s n h b c) r x.1)
+        (is_asked kind.Wb x.0, sym (same_Some (taking s n h b c) r x.1))
 
     pub ends : (o : Option Kind) → nacked s b o ≡ Some r → (k : Kind) × (o ≡ Some k) × (out s.requests b ≡ Some k) × (r ≡ quiet (at_request b None s))
     ends None is = never cc
     ends (Some k) is =
         let x = allowed (is_out s.requests b k) (Some (quiet (at_request b None s))) r is in
-        (k, refl, is_asked k x.0, some_same (quiet (at_request b None s)) r x.1)
+        (k, refl, is_asked k x.0, sym (same_Some (quiet (at_request b None s)) r x.1))

@@ -1,35 +1,29 @@
 -- Every effect is, for each block, one of its moves, or two in turn.
-use Rattle.std.proofs.Common.{◌≡◌, ℕ, ◌<◌, ◌≤◌, true, cond, eqb, ltb, ◌⊎◌, List, length, Some, sym, refl, ap, ◌∙◌, subst, inl, inr, arith}
+use Rattle.std.proofs.Common.{◌≡◌, ℕ, ◌<◌, ◌≤◌, true, cond, eqb, ◌⊎◌, List, length, Some, sym, refl, ap, ◌∙◌, subst, inl, inr, arith}
 use Rattle.bridge.specs.declared.state.Bridge.{Bridge}
 use Rattle.device.specs.Meaning.{Meaning}
 use Rattle.home.specs.Reactions.{received}
 use Rattle.home.specs.declared.machine.Home.{Home}
 use Rattle.list.specs.Contents.{removed}
 use Rattle.message.proofs.Soundness.{well_formed_are_sound}
-use Rattle.message.specs.Checks.{end_fits}
-use Rattle.message.specs.Forms.{row}
-use Rattle.message.specs.Kinds.{is_request}
 use Rattle.message.specs.Laws.{goes_home, comes_from_home}
 use Rattle.message.specs.Messages.{no_message}
 use Rattle.message.specs.Nodes.{home_node}
 use Rattle.message.specs.Reactions.{sent}
 use Rattle.message.specs.Requests.{out}
 use Rattle.message.specs.declared.figures.Figures.{Figures}
-use Rattle.message.specs.declared.kind.Kind.{Kind}
 use Rattle.message.specs.declared.kind.Kind.TheVariants as kind
 use Rattle.message.specs.declared.message.Message.{Message}
 use Rattle.message.specs.declared.reaction.Reaction.{Reaction}
 use Rattle.processor.specs.Inputs as processor
 use Rattle.std.proofs.lemmas.List.{get_or-set_other}
-use Rattle.std.proofs.lemmas.Bool.{and_parts, and_right, cases_eq, ltb-true, ne_eqb}
+use Rattle.std.proofs.lemmas.Bool.{and_right, cases_eq, ne_eqb}
 use Rattle.std.proofs.lemmas.Bool.Decides.{nat_tests}
 use Rattle.std.specs.Option.{option_to_list}
-use Rattle.coherence.proofs.Balance.{nack_refuses}
 use Rattle.coherence.proofs.Blocks.{Block, block, about, on, request_out}
-use Rattle.coherence.proofs.Carrying.{is_block_request}
 use Rattle.coherence.proofs.Clocks.{Shape}
 use Rattle.coherence.proofs.Forms.{HomesWell}
-use Rattle.coherence.proofs.FormsBuilt.{Well, as_row, as_back}
+use Rattle.coherence.proofs.FormsBuilt.{Well, refuses_requests}
 use Rattle.coherence.proofs.Meeting.{Asks, Meets, at_call, at_first_wish, at_second_wish, to_processor, to_home, to_first, to_second}
 use Rattle.coherence.proofs.Moves.{Passes, once, rests, OutPut}
 use Rattle.coherence.proofs.MovesBridges as bridges
@@ -39,7 +33,7 @@ use Rattle.coherence.proofs.MovesHomes.{sends_elsewhere, enters_elsewhere}
 use Rattle.coherence.proofs.MovesOwnHome.{home_moves}
 use Rattle.coherence.proofs.Phases.{busy_gathering}
 use Rattle.coherence.proofs.Posts.{kept_added, kept_still}
-use Rattle.coherence.proofs.SlotsKept.{Tabled, refuses_requests}
+use Rattle.coherence.proofs.SlotsKept.{Tabled}
 use Rattle.coherence.proofs.Stepping.{after}
 use Rattle.coherence.proofs.Wishes.{Lawful}
 use Rattle.coherence.specs.Steps.{Effect, by_home, by_first, by_second, figures, waiting}
@@ -47,18 +41,12 @@ use Rattle.coherence.specs.Worlds.{World, home_at, no_home, with_first, with_sec
 use Rattle.coherence.specs.declared.call.Call.{Call}
 use Rattle.coherence.specs.declared.call.Call.TheVariants as call
 
--- what is refused to a device is a block request
-returned_to : (f : Figures) (k : Kind) (n p : ℕ) → 4 ≤ n → is_request k ≡ true → end_fits f (row k).sender n p ≡ true → is_block_request k ≡ true
-returned_to f k n p device request fit = grind (arith, nat_tests)
-
 block_refused : (f : Figures) (m : Message ℕ) → Well f m → 4 ≤ m.receiver → bridges.BlockRefused m
-block_refused f m well device k is =
-    let back = as_back f m k (nack_refuses f m well k is) is well in
-    returned_to f k m.receiver m.place device back.0 back.1.receiver
+block_refused f m well device k is = grind (arith, nat_tests)
 
 -- an acknowledgement is a processor's
 ack_sender : (f : Figures) (m : Message ℕ) → Well f m → m.kind ≡ kind.Ack → m.sender < 4
-ack_sender f m well is = ltb-true m.sender 4 (and_parts (ltb m.sender 4) _ (as_row f m kind.Ack is refl well).0.sender).0
+ack_sender f m well is = grind (arith, nat_tests)
 
 -- a call names its request by number
 by_number : (c : Call) (p : ℕ) (i : processor.Input) → Asks c p i → ByNumber i

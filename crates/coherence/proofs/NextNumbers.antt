@@ -1,10 +1,8 @@
 -- What calls issue, and the numbers that come next: only the node that reacts moves its own on.
-use Rattle.std.proofs.Common.{◌≡◌, ℕ, ◌<◌, ◌≤◌, true, eqb, ◌⊎◌, length, get_or, set, Some, None, Option, sym, refl, ap, subst, inl, inr, arith}
+use Rattle.std.proofs.Common.{◌≡◌, ℕ, ◌<◌, ◌≤◌, true, ◌⊎◌, length, get_or, set, Some, None, Option, sym, refl, ap, subst, inl, inr, arith, ◌∙◌}
 use Rattle.bridge.specs.declared.state.Bridge.{Bridge}
 use Rattle.device.specs.Meaning.{Meaning}
-use Rattle.message.proofs.Numbering.{numbers_tell_kinds}
 use Rattle.message.proofs.Soundness.{well_formed_are_sound}
-use Rattle.message.specs.Checks.{has_processor}
 use Rattle.message.specs.Kinds.{is_request, same_kind}
 use Rattle.message.specs.Nodes.{home_node}
 use Rattle.message.specs.declared.figures.Figures.{Figures}
@@ -13,11 +11,13 @@ use Rattle.message.specs.declared.message.Message.{Message}
 use Rattle.processor.specs.Inputs as processor
 use Rattle.processor.specs.declared.state.Processor.{Processor}
 use Rattle.std.proofs.lemmas.List.{get_or-set_other, get_or-set_same}
-use Rattle.std.proofs.lemmas.Bool.{and_parts, cases_eq, eqb-true, lt-ltb, ne_eqb, or_left}
+use Rattle.std.proofs.lemmas.Bool.{cases_eq, lt-ltb, ne_eqb, or_left}
+use Rattle.std.proofs.lemmas.Bool.Decides.{nat_tests}
+use Rattle.std.proofs.lemmas.Option.{none-some}
 use Rattle.std.specs.Option.{option_map}
 use Rattle.coherence.proofs.AccountsProcessors.{own_access}
 use Rattle.coherence.proofs.Carrying.{issued_as, next_number}
-use Rattle.coherence.proofs.FormsBuilt.{Well, as_row}
+use Rattle.coherence.proofs.FormsBuilt.{Well}
 use Rattle.coherence.proofs.Meeting.{Asks, Goes}
 use Rattle.coherence.specs.Histories.{Issued, issues}
 use Rattle.coherence.specs.Worlds.{World, processor_at, with_processor, with_first, with_second, no_processor}
@@ -26,15 +26,13 @@ use Rattle.coherence.specs.declared.call.Call.TheVariants.{Load, Store, Request,
 
 -- an interrupt's place is its receiver, and a request's block is its home's
 pub interrupt_place : (f : Figures) (m : Message ℕ) → Well f m → same_kind m.kind kind.Int ≡ true → m.place ≡ m.receiver
-interrupt_place f m well is =
-    let fit = (as_row f m kind.Int (numbers_tell_kinds m.kind kind.Int is) refl well).0 in
-    sym (eqb-true m.receiver m.place (and_parts (has_processor f m.receiver) (eqb m.receiver m.place) fit.receiver).1)
+interrupt_place f m well is = grind (arith, nat_tests)
 
 pub request_place : (f : Figures) (m : Message ℕ) (b : ℕ) → Well f m → m.receiver ≡ home_node b → is_request m.kind ≡ true → m.place ≡ b
 request_place f m b well to asks = let home = (well_formed_are_sound f m well).receiver (or_left (is_request m.kind) _ asks) in omega arith
 
 pub none_issued : (o : Option Issued) → o ≡ None → (x : Issued) → o ≡ Some x → ⊥
-none_issued o none x is = let z : ◌≡◌ {A = ℕ} 0 1 = cc in omega arith
+none_issued o none x is = none-some x (sym none ∙ is)
 
 module _ {A B : Type 0} (w : World A B) where
   -- the next numbers after one node's reaction

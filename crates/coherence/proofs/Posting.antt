@@ -1,5 +1,5 @@
 -- What a reaction posts: a processor and a bridge at most one message; and how a test counts what is posted and entered.
-use Rattle.std.proofs.Common.{◌≡◌, ℕ, zero, suc, ◌+◌, ◌<◌, Bool, false, List, [], ◌∷◌, ◌++◌, length, get_or, set, IfSome, Some, None, Option, ap, ◌∙◌, arith}
+use Rattle.std.proofs.Common.{◌≡◌, ℕ, ◌+◌, Bool, false, List, [], ◌∷◌, ◌++◌, get_or, IfSome, Some, None, Option, ap, ◌∙◌, arith}
 use Rattle.bridge.specs.Inputs as bridge
 use Rattle.device.specs.Meaning.{Meaning}
 use Rattle.home.proofs.Back.{one_more}
@@ -44,11 +44,6 @@ module _ {X : Type 0} (p : X → Bool) where
   pub count_listed : (xs : List X) (o : Option X) → count p (xs ++ option_to_list o) ≡ count p xs + hit o
   count_listed xs None = let none = count_none p in omega (arith, count_append p xs [])
   count_listed xs (Some x) = count_push p xs x
-
-  pub count_set : (xs : List X) (i : ℕ) (x d : X) → i < length xs → count p (set xs i x) + indicator (p (get_or xs i d)) ≡ count p xs + indicator (p x)
-  count_set [] i x d within = absurd (omega arith)
-  count_set (y ∷ xs) zero x d within = omega (arith, count_cons p x xs, count_cons p y xs)
-  count_set (y ∷ xs) (suc i) x d within = let rest = count_set xs i x d (omega arith) in omega (arith, count_cons p y (set xs i x), count_cons p y xs)
 
 -- what waits once one message more is posted
 pub count_posted : (p : Message ℕ → Bool) (ms : List (Message ℕ)) (o : Outbox) → sent o ≡ option_to_list (posted o) → count p (ms ++ sent o) ≡ count p ms + hit p (posted o)

@@ -1,19 +1,20 @@
 -- Every read is current: where stamps rise between conflicting entries, and each read got the value of the last write
 -- before it in the trail, that write is the one with the greatest stamp below the read's.
-use Rattle.std.proofs.Common.{◌≡◌, ℕ, zero, suc, ◌<◌, Bool, true, false, cond, ◌&&◌, ◌⊎◌, List, [], ◌∷◌, ◌++◌, get_or, take, Some, None, Option, sym, refl, ap, ◌∙◌, subst, inl, inr, suc-le-suc, zero-le, le_of_suc-le-suc, not-suc-le-zero}
+use Rattle.std.proofs.Common.{◌≡◌, ℕ, zero, suc, ◌<◌, true, false, cond, ◌&&◌, ◌⊎◌, List, [], ◌∷◌, ◌++◌, get_or, take, Some, None, Option, sym, refl, ap, ◌∙◌, subst, inl, inr, suc-le-suc, zero-le, le_of_suc-le-suc, not-suc-le-zero}
 use Rattle.device.specs.Meaning.{Meaning}
 use Rattle.ordering.proofs.Total.{strict_total_order}
 use Rattle.ordering.specs.Operations.{is_read, is_write}
 use Rattle.ordering.specs.Stamps.{below}
 use Rattle.ordering.specs.declared.stamp.Stamp.{Stamp}
-use Rattle.std.proofs.lemmas.Bool.{and_from, and_parts, both_ways, cases_order, cond-false, cond-true}
+use Rattle.std.proofs.lemmas.Bool.{and_from, and_parts, both_ways, cases_order, cond-false, cond-true, false_from_ne_true}
+use Rattle.std.proofs.lemmas.Option.{none-some, same_Some}
 use Rattle.std.specs.List.{slice_get}
 use Rattle.trail.proofs.Covering.{covers_own_words}
 use Rattle.trail.specs.Addresses.{address_of, covers, value_at, has_word}
 use Rattle.trail.specs.Sources.{Source, writes_below}
 use Rattle.trail.specs.declared.address.Address.{Address}
 use Rattle.trail.specs.declared.entry.Entry.{Entry}
-use Rattle.coherence.proofs.Rising.{nowhere, same_element, same_place, Rising, rising_at, writes_to, write_first, write_second}
+use Rattle.coherence.proofs.Rising.{same_place, Rising, rising_at, writes_to, write_first, write_second}
 use Rattle.coherence.specs.Makings.{Making}
 use Rattle.coherence.specs.Promise.{Current, at_making}
 
@@ -57,8 +58,8 @@ by_order_push start (x ∷ trail) e by new = (by.0, by_order_push (after x start
 -- the same, by place
 pub by_order_at : (start : Address → ℕ) (trail : List Entry) (i : ℕ) (e : Entry) → ByOrder start trail → slice_get trail i ≡ Some e
     → Reads (current start (take i trail)) e
-by_order_at start [] i e by h = absurd (nowhere i e h)
-by_order_at start (x ∷ trail) zero e by h = subst (Reads start) (same_element x e h) by.0
+by_order_at start [] i e by h = absurd (none-some e h)
+by_order_at start (x ∷ trail) zero e by h = subst (Reads start) (same_Some x e h) by.0
 by_order_at start (x ∷ trail) (suc i) e by h = by_order_at (after x start) trail i e by.1 h
 
 module _ (a : Address) where
@@ -77,10 +78,10 @@ module _ (a : Address) where
       → slice_get trail n ≡ Some w → n < i → writes_to a w ≡ true
       → ((m : ℕ) (f : Entry) → n < m → m < i → slice_get trail m ≡ Some f → writes_to a f ≡ false)
       → current start (take i trail) a ≡ value_at w a
-  last_written start [] n i w h l is none = absurd (nowhere n w h)
+  last_written start [] n i w h l is none = absurd (none-some w h)
   last_written start (x ∷ trail) n zero w h l is none = absurd (not-suc-le-zero l)
   last_written start (x ∷ trail) zero (suc i) w h l is none =
-      let same : x ≡ w = same_element x w h in
+      let same : x ≡ w = same_Some x w h in
       unwritten (after x start) trail i (λ m f l k. none (suc m) f (suc-le-suc zero-le) (suc-le-suc l) k)
       ∙ cond-true (writes_to a x) (value_at x a) (start a) (ap (writes_to a) same ∙ is)
       ∙ ap (λ (f : Entry). value_at f a) same
@@ -89,10 +90,6 @@ module _ (a : Address) where
 
 asymmetric : (s t : Stamp) → below s t ≡ true → below t s ≡ true → ⊥
 asymmetric s t h k = both_ways (below s s) (strict_total_order.irreflexive s) (strict_total_order.transitive s t s h k)
-
-never : (b : Bool) → (b ≡ true → ⊥) → b ≡ false
-never true h = absurd (h refl)
-never false h = refl
 
 -- The value that a source tells, or what stood there at the start.
 abbrev pub from : (Address → ℕ) → Address → Option (ℕ × ℕ) → ℕ
@@ -125,7 +122,7 @@ module _ (trail : List Entry) (rising : Rising trail)
   current_source start None source = unwritten a start trail i none
     where
       none : (m : ℕ) (f : Entry) → m < i → slice_get trail m ≡ Some f → writes_to a f ≡ false
-      none m f l h = never (writes_to a f) (λ w. both_ways (writes_below a e.stamp f) (source m f h) (lower m f h l w))
+      none m f l h = false_from_ne_true (writes_to a f) (λ w. both_ways (writes_below a e.stamp f) (source m f h) (lower m f h l w))
   current_source start (Some x) source =
       last_written a start trail x.0 i w source.stands (earlier x.0 w source.stands parts.0 parts.1) parts.0 none
       ∙ sym source.value
@@ -138,7 +135,7 @@ module _ (trail : List Entry) (rising : Rising trail)
 
       -- a write between the two would be above the source and below the entry
       none : (m : ℕ) (f : Entry) → x.0 < m → m < i → slice_get trail m ≡ Some f → writes_to a f ≡ false
-      none m f k l h = never (writes_to a f) between
+      none m f k l h = false_from_ne_true (writes_to a f) between
         where
           between : writes_to a f ≡ true → ⊥
           between v =

@@ -1,5 +1,5 @@
 -- Receivers by the form of the message: which nodes its ends are, and how it comes to its rule there.
-use Rattle.std.proofs.Common.{◌≡◌, ℕ, zero, suc, ◌<◌, ◌≤◌, Bool, true, false, eqb, ltb, ◌⊎◌, is_some, refl, inl, inr, ⊎_elim, arith}
+use Rattle.std.proofs.Common.{◌≡◌, ℕ, zero, suc, ◌<◌, ◌≤◌, true, false, eqb, ltb, ◌⊎◌, is_some, refl, inl, inr, ⊎_elim, arith}
 use Rattle.home.specs.Directories.{awaits}
 use Rattle.home.specs.Reactions.{awaits_taken, received, requested}
 use Rattle.home.specs.Requests.{request_of}
@@ -16,18 +16,9 @@ use Rattle.message.specs.declared.message.Message.{Message}
 use Rattle.processor.specs.Receive as processor
 use Rattle.processor.specs.Slots.{is_awaited, slot_at}
 use Rattle.processor.specs.declared.state.Processor.{Processor}
-use Rattle.std.proofs.lemmas.Bool.{or_from, and_parts, eqb-true, leb-true, ne_eqb, lt-ltb, ltb-true, or_cases}
+use Rattle.std.proofs.lemmas.Bool.{and_parts, eqb-true, leb-true, ne_eqb, lt-ltb, ltb-true, or_cases}
 use Rattle.coherence.proofs.Blocks.{peer, token}
-use Rattle.coherence.proofs.Counting.{indicator}
 use Rattle.coherence.proofs.Rules.{value_ruled}
-
-pub sure : (b : Bool) → 1 ≤ indicator b → b ≡ true
-sure true one = refl
-sure false one = absurd (omega arith)
-
-pub not_sure : (b : Bool) → indicator b ≡ 0 → b ≡ false
-not_sure true none = absurd (omega arith)
-not_sure false none = refl
 
 -- a request's class, its end, and its way into a home
 pub request_class : (m : Message ℕ) → is_request m.kind ≡ true → (token m ≡ kind_number m.kind) × (peer m ≡ m.sender)
@@ -57,9 +48,6 @@ owner_nodes f n p is = grind arith
 
 pub owner_device : (f : Figures) (n p : ℕ) → end_fits f Owner n p ≡ true → is_device n ≡ true
 owner_device f n p is = grind arith
-
-pub no_device : (n : ℕ) → n < 4 → is_device n ≡ false
-no_device n small = or_from (eqb n 4) (eqb n 5) (ne_eqb n 4 (λ is. omega arith)) (ne_eqb n 5 (λ is. omega arith))
 
 -- VALUE from a device finds its slot
 pub fetches : (s : Processor ℕ) (n d : ℕ) → d < 2 → (v c : ℕ) → n ≡ device_node d → is_awaited (slot_at s.slots d) ≡ true → is_some (processor.fetched_from s n v c) ≡ true

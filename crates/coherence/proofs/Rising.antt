@@ -1,29 +1,22 @@
 -- A trail in the order in which its entries were added: stamps rise between entries that conflict, and no two are equal.
-use Rattle.std.proofs.Common.{◌≡◌, ℕ, zero, suc, ◌<◌, Bool, true, ◌&&◌, ◌||◌, ◌≢◌, ◌⊎◌, List, [], ◌∷◌, ◌++◌, Some, sym, refl, ap, ◌∙◌, subst, inl, inr, le_of_suc-le-suc, not-suc-le-zero, arith}
+use Rattle.std.proofs.Common.{◌≡◌, ℕ, zero, suc, ◌<◌, Bool, true, ◌&&◌, ◌||◌, ◌≢◌, ◌⊎◌, List, [], ◌∷◌, ◌++◌, Some, sym, refl, ap, ◌∙◌, subst, inl, inr, le_of_suc-le-suc, not-suc-le-zero}
 use Rattle.ordering.specs.Operations.{is_write}
 use Rattle.ordering.specs.Stamps.{below}
-use Rattle.std.proofs.ByRecursion.{All-push}
+use Rattle.std.proofs.ByRecursion.{All-get_or, All-push}
 use Rattle.std.proofs.lemmas.Bool.{and_parts, cases_order, or_left, or_right}
+use Rattle.std.proofs.lemmas.Option.{none-some, same_Some, get_or_from_slice_get, slice_get_within}
 use Rattle.std.specs.List.{AllByRecursion as All, slice_get}
 use Rattle.trail.specs.Addresses.{covers}
 use Rattle.trail.specs.declared.address.Address.{Address}
 use Rattle.trail.specs.declared.entry.Entry.{Entry}
 
 module _ {X : Type 0} where
-  pub nowhere : (i : ℕ) (x : X) → slice_get [] i ≡ Some x → ⊥
-  nowhere i x h = let z : ◌≡◌ {A = ℕ} 0 1 = cc in omega arith
-
-  pub same_element : (x y : X) → Some x ≡ Some y → x ≡ y
-  same_element x y h = cc
-
   pub same_place : (xs : List X) (i j : ℕ) (x y : X) → slice_get xs i ≡ Some x → slice_get xs j ≡ Some y → i ≡ j → x ≡ y
-  same_place xs i j x y h k e = same_element x y (sym h ∙ ap (slice_get xs) e ∙ k)
+  same_place xs i j x y h k e = same_Some x y (sym h ∙ ap (slice_get xs) e ∙ k)
 
   -- what holds of each element, by places
   pub all_nth : (P : X → Type 0) (xs : List X) (i : ℕ) (x : X) → All P xs → slice_get xs i ≡ Some x → P x
-  all_nth P [] i x all h = absurd (nowhere i x h)
-  all_nth P (y ∷ xs) zero x all h = subst P (same_element y x h) all.0
-  all_nth P (y ∷ xs) (suc i) x all h = all_nth P xs i x all.1 h
+  all_nth P xs i x all h = subst P (get_or_from_slice_get xs i x x h) (All-get_or P xs i x (slice_get_within xs i x h) all)
 
   pub all_from_nth : (P : X → Type 0) (xs : List X) → ((i : ℕ) (x : X) → slice_get xs i ≡ Some x → P x) → All P xs
   all_from_nth P [] each = tt
@@ -40,10 +33,10 @@ module _ {X : Type 0} where
 
   pub pairs_nth : (R : X → X → Type 0) (xs : List X) (i j : ℕ) (x y : X) → Pairs R xs
       → slice_get xs i ≡ Some x → slice_get xs j ≡ Some y → i < j → R x y
-  pairs_nth R [] i j x y pairs h k l = absurd (nowhere i x h)
+  pairs_nth R [] i j x y pairs h k l = absurd (none-some x h)
   pairs_nth R (z ∷ xs) i zero x y pairs h k l = absurd (not-suc-le-zero l)
   pairs_nth R (z ∷ xs) zero (suc j) x y pairs h k l =
-      subst (λ (w : X). R w y) (same_element z x h) (all_nth (R z) xs j y pairs.0 k)
+      subst (λ (w : X). R w y) (same_Some z x h) (all_nth (R z) xs j y pairs.0 k)
   pairs_nth R (z ∷ xs) (suc i) (suc j) x y pairs h k l = pairs_nth R xs i j x y pairs.1 h k (le_of_suc-le-suc l)
 
 -- Two entries conflict where they share an address and one of them writes.

@@ -27,8 +27,10 @@ use Rattle.coherence.proofs.Arrivals.{at_first, at_home, at_processor, at_second
 use Rattle.coherence.proofs.Blocks.{block, peer, pending, request_out, token}
 use Rattle.coherence.proofs.Carrying.{SlotsBalanced}
 use Rattle.coherence.proofs.Classes.{class_by, refusal_of}
+use Rattle.coherence.proofs.Counting.{not_sure, sure}
 use Rattle.coherence.proofs.FormsBuilt.{Well, as_back, as_row}
-use Rattle.coherence.proofs.Receivers.{back_end, device_nodes, fetches, least, no_device, not_sure, on_board, owner_device, owner_nodes, request_class, sure, takes_ack, takes_request, takes_taken}
+use Rattle.coherence.proofs.FormsNodes.{no_device}
+use Rattle.coherence.proofs.Receivers.{back_end, device_nodes, fetches, least, on_board, owner_device, owner_nodes, request_class, takes_ack, takes_request, takes_taken}
 use Rattle.coherence.proofs.Rising.{all_nth}
 use Rattle.coherence.proofs.Rules.{down_ruled, finds_copy, finds_owned, finds_refused, finds_request, finds_shared, frees, grant_ruled, hears, idle_view, inv_ruled, out_found, request_ruled, unknown}
 use Rattle.coherence.proofs.Tokens.{Tokens, out_is}

@@ -1,5 +1,5 @@
 -- What the tokens of a block say of the receiver of each message that waits, and that a receiver so found has a rule.
-use Rattle.std.proofs.Common.{◌≡◌, ℕ, ◌+◌, ◌≤◌, Bool, true, false, is_some, Some, None, Option, refl, ap, arith}
+use Rattle.std.proofs.Common.{◌≡◌, ℕ, ◌+◌, ◌≤◌, true, false, is_some, Some, None, Option, ap, arith}
 use Rattle.home.specs.Directories.{awaits, view}
 use Rattle.home.specs.Laws.{has_replied}
 use Rattle.home.specs.Plans.{plan}
@@ -21,7 +21,7 @@ use Rattle.processor.specs.Slots.{slot_at, is_awaited}
 use Rattle.processor.specs.declared.state.Processor.{Processor}
 use Rattle.coherence.proofs.Blocks.{Block, pending}
 use Rattle.coherence.proofs.Carrying.{gathers}
-use Rattle.coherence.proofs.Counting.{indicator, indicator_most}
+use Rattle.coherence.proofs.Counting.{indicator, indicator_most, sure}
 use Rattle.coherence.proofs.Shifts.{apart}
 use Rattle.coherence.proofs.Sole.{copies_add, held_most}
 use Rattle.coherence.proofs.Tokens.{Tokens, answering, awaited, gathering, held, holder, out_is, owned, shared}
@@ -99,10 +99,6 @@ out_found r b k one = go (out r b) one
     go : (o : Option Kind) → 1 ≤ out_is o (kind_number k) → elim o [ None ↦ false | Some j ↦ same_kind j k ] ≡ true
     go None one = absurd (omega arith)
     go (Some j) one = sure (same_kind j k) one
-      where
-        sure : (t : Bool) → 1 ≤ indicator t → t ≡ true
-        sure true one = refl
-        sure false one = absurd (omega arith)
 
 -- A request has a rule at a home unless a holder asks for a copy.
 pub request_ruled : (h : Home ℕ) (b : ℕ) (r : Request) (v : View) (s : Processors) (p : ℕ) → is_request r.kind ≡ true

@@ -20,7 +20,7 @@ use Rattle.coherence.specs.declared.call.Call.{Call}
 
 module _ {A B : Type 0} (ma : Meaning A) (mb : Meaning B) where
   -- a history's world is the one that the step led to, accepted or not
-  answered_world : (c : Call) (h : History A B) (r : Answer) (w : World A B) → (answered ma mb c h r w).world ≡ w
+  pub answered_world : (c : Call) (h : History A B) (r : Answer) (w : World A B) → (answered ma mb c h r w).world ≡ w
   answered_world c h (Ok v) w = refl
   answered_world c h (Err f) w = refl
 

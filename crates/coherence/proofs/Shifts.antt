@@ -60,6 +60,10 @@ put_here p new old now is = is ∙ ap (λ b. cond b new old) (eq-eqb p p refl)
 pub put_there : {A : Type 0} (p q : ℕ) (new old now : A) → now ≡ cond (eqb p q) new old → eqb p q ≡ false → now ≡ old
 put_there p q new old now is apart = is ∙ ap (λ b. cond b new old) apart
 
+-- what was there, put back
+pub put_same : {A : Type 0} (p q : ℕ) (f : ℕ → A) → cond (eqb p q) (f p) (f q) ≡ f q
+put_same p q f = ⊎_elim (λ here. rw here (ap f (eqb-true p q here))) (λ there. rw there refl) (cases_Bool (eqb p q))
+
 -- a home that has replied does not gather
 pub apart : (h : Home ℕ) (q : ℕ) → answering h q + gathering h ≤ 1
 apart h q = grind (arith, indicator_most)

@@ -1,5 +1,5 @@
 -- Every call keeps the balance of awaited words: a slot awaits its word exactly while one Rio or VALUE for it waits.
-use Rattle.std.proofs.Common.{◌≡◌, ℕ, ◌+◌, ◌<◌, ◌≤◌, Bool, true, false, cond, ◌&&◌, ◌⊎◌, List, ◌++◌, get_or, set, Some, None, Option, sym, refl, ap, ◌∙◌, subst, inl, inr, arith}
+use Rattle.std.proofs.Common.{◌≡◌, ℕ, ◌+◌, ◌<◌, ◌≤◌, true, false, ◌⊎◌, List, ◌++◌, get_or, set, Some, None, sym, refl, ap, ◌∙◌, subst, inl, inr, arith}
 use Rattle.bridge.specs.Inputs as bridge
 use Rattle.bridge.specs.declared.state.Bridge.{Bridge}
 use Rattle.device.specs.Meaning.{Meaning}
@@ -7,14 +7,10 @@ use Rattle.home.specs.Reactions.{nack, received}
 use Rattle.home.specs.Requests.{request_of}
 use Rattle.home.specs.declared.machine.Home.{Home}
 use Rattle.list.specs.Contents.{removed}
-use Rattle.message.specs.Checks.{fits}
-use Rattle.message.specs.Forms.{form_of, row, returned}
-use Rattle.message.specs.Kinds.{is_request, same_kind}
+use Rattle.message.specs.Kinds.{is_request}
 use Rattle.message.specs.Nodes.{device_node, home_node}
 use Rattle.message.specs.Reactions.{sent}
-use Rattle.message.specs.declared.figures.Figures.{Figures}
 use Rattle.message.specs.declared.kind.Kind.{Kind}
-use Rattle.message.specs.declared.kind.Kind.TheVariants as kind
 use Rattle.message.specs.declared.message.Message.{Message}
 use Rattle.message.specs.declared.reaction.Outbox.{Outbox}
 use Rattle.message.specs.declared.reaction.Reaction.{Reaction}
@@ -25,13 +21,13 @@ use Rattle.processor.specs.declared.slot.Slot.{Slot}
 use Rattle.processor.specs.declared.slot.Slot.TheVariants.{Free}
 use Rattle.processor.specs.declared.state.Processor.{Processor}
 use Rattle.std.proofs.lemmas.List.{get_or-replicate, get_or-set_other, get_or-set_same}
-use Rattle.std.proofs.lemmas.Bool.{and_right, both_ways, cases_eq, ne_eqb}
+use Rattle.std.proofs.lemmas.Bool.{and_right, cases_eq, ne_eqb}
 use Rattle.std.proofs.lemmas.Bool.Decides.{nat_tests}
 use Rattle.std.specs.Option.{option_to_list}
 use Rattle.coherence.proofs.Carrying.{SlotsBalanced}
 use Rattle.coherence.proofs.Clocks.{Shape}
 use Rattle.coherence.proofs.Counting.{indicator, count, count_append}
-use Rattle.coherence.proofs.FormsBuilt.{Well}
+use Rattle.coherence.proofs.FormsBuilt.{refuses_requests}
 use Rattle.coherence.proofs.Meeting.{Goes, Meets, at_call, at_first_wish, at_second_wish, to_processor, to_home, to_first, to_second}
 use Rattle.coherence.proofs.Posting.{processor_posts, bridge_posts, posted, count_posted, NoQuestion, NoReply, home_uncounted}
 use Rattle.coherence.proofs.Slots.{awaits, crossing, calls_balance, messages_balance, only_own_rio, no_rio_back, no_value, bridge_answers, wishes_answer_nothing, only_own_value, no_rio, no_rio_again}
@@ -64,15 +60,6 @@ home_quiet h b m r is ms s t = (none 7 (λ k q. grind (arith, nat_tests)) (λ x 
         let new = traffic_counts (ms ++ sent r.sent) s t c in
         let old = traffic_counts ms s t c in
         omega (arith, count_append (crosses c s t) ms (sent r.sent))
-
--- only requests are refused
-pub refuses_requests : (f : Figures) (m : Message ℕ) → Well f m → (k : Kind) → m.refused ≡ Some k → is_request k ≡ true
-refuses_requests f m well k is = go (same_kind m.kind kind.Nack) (is_request k) refl (subst (λ (o : Option Kind). elim (form_of m.kind o) [ None ↦ false | Some o ↦ fits f o m ] ≡ true) is well)
-  where
-    go : (x y : Bool) → is_request k ≡ y → elim (cond (x && y) (Some (returned (row k))) None) [ None ↦ false | Some o ↦ fits f o m ] ≡ true → is_request k ≡ true
-    go true true e h = e
-    go true false e h = absurd (both_ways false refl h)
-    go false y e h = absurd (both_ways false refl h)
 
 -- Each processor's tables are whole.
 abbrev pub Tabled : {A B : Type 0} → World A B → Type 0

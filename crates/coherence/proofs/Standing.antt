@@ -4,16 +4,17 @@ use Rattle.list.specs.Contents.{removed}
 use Rattle.std.proofs.ByRecursion.{All-append, All-take, All-drop}
 use Rattle.std.proofs.lemmas.List.{take-append-drop}
 use Rattle.std.proofs.lemmas.Bool.{cases_order}
+use Rattle.std.proofs.lemmas.Option.{none-some, same_Some}
 use Rattle.std.specs.Option.{option_to_list}
 use Rattle.std.specs.List.{AllByRecursion as All, slice_get}
 use Rattle.coherence.proofs.Arising.{never}
 use Rattle.coherence.proofs.Counting.{indicator, count, count_none, count_cons}
-use Rattle.coherence.proofs.Rising.{Pairs, nowhere, same_element, all_nth, pairs_nth}
+use Rattle.coherence.proofs.Rising.{Pairs, all_nth, pairs_nth}
 use Rattle.coherence.specs.Promise.{Stands}
 
 module _ {X : Type 0} where
   pub none_stands : (x : X) → Stands [] x → ⊥
-  none_stands x s = nowhere s.0 x s.1
+  none_stands x s = none-some x s.1
 
   pub stands_first : (x : X) (xs : List X) → Stands (x ∷ xs) x
   stands_first x xs = (0, refl)
@@ -39,7 +40,7 @@ module _ {X : Type 0} where
   pub stands_only : (o : Option X) (x : X) → Stands (option_to_list o) x → o ≡ Some x
   stands_only None x s = absurd (none_stands x s)
   stands_only (Some y) x (zero, is) = is
-  stands_only (Some y) x (suc i, is) = absurd (nowhere i x is)
+  stands_only (Some y) x (suc i, is) = absurd (none-some x is)
 
   pub stands_some : (o : Option X) (x : X) → o ≡ Some x → Stands (option_to_list o) x
   stands_some o x is = subst (λ (p : Option X). Stands (option_to_list p) x) (sym is) (stands_first x [])
@@ -78,7 +79,7 @@ module _ {X : Type 0} where
   pub pairs_stand : (R : X → X → Type 0) (xs ys : List X) (x y : X) → Pairs R (xs ++ ys) → Stands xs x → Stands ys y → R x y
   pairs_stand R [] ys x y pairs s t = absurd (none_stands x s)
   pairs_stand R (z ∷ xs) ys x y pairs (zero, is) t =
-      subst (λ (w : X). R w y) (same_element z x is) (stands_all (R z) (xs ++ ys) y pairs.0 (stands_new xs ys y t))
+      subst (λ (w : X). R w y) (same_Some z x is) (stands_all (R z) (xs ++ ys) y pairs.0 (stands_new xs ys y t))
   pairs_stand R (z ∷ xs) ys x y pairs (suc i, is) t = pairs_stand R xs ys x y pairs.1 (i, is) t
 
   pub pairs_order : (R : X → X → Type 0) (xs : List X) (x y : X) → Pairs R xs → (s : Stands xs x) → (t : Stands xs y)
@@ -86,7 +87,7 @@ module _ {X : Type 0} where
   pairs_order R xs x y pairs (i, is) (j, it) = go (cases_order i j)
     where
       go : (i ≡ j) ⊎ ((i < j) ⊎ (j < i)) → (x ≡ y) ⊎ (R x y ⊎ R y x)
-      go (inl same) = inl (same_element x y (sym is ∙ subst (λ (k : ℕ). slice_get xs k ≡ Some y) (sym same) it))
+      go (inl same) = inl (same_Some x y (sym is ∙ subst (λ (k : ℕ). slice_get xs k ≡ Some y) (sym same) it))
       go (inr (inl l)) = inr (inl (pairs_nth R xs i j x y pairs is it l))
       go (inr (inr l)) = inr (inr (pairs_nth R xs j i y x pairs it is l))
 

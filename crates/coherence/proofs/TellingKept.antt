@@ -8,6 +8,7 @@ use Rattle.processor.specs.Slots.{slot_at}
 use Rattle.processor.specs.declared.slot.Slot.TheVariants.{Came}
 use Rattle.processor.specs.declared.state.Processor.{Processor}
 use Rattle.std.proofs.lemmas.Bool.Decides as ways
+use Rattle.std.proofs.lemmas.Option.{none-some, same_Some}
 use Rattle.std.specs.Option.{option_map}
 use Rattle.trail.specs.declared.entry.Entry.{Entry}
 use Rattle.coherence.proofs.Arising.{never}
@@ -16,7 +17,6 @@ use Rattle.coherence.proofs.Growing.{trail_on, trail_new}
 use Rattle.coherence.proofs.Meeting.{Asks, Meets, at_call, at_first_wish, at_second_wish, to_processor, to_home, to_first, to_second}
 use Rattle.coherence.proofs.Orderly.{AllTold, Truthful, Known}
 use Rattle.coherence.proofs.Recording.{grown}
-use Rattle.coherence.proofs.Rising.{nowhere, same_element}
 use Rattle.coherence.proofs.Standing.{some_there, none_stands, stands_either}
 use Rattle.coherence.specs.Histories.{History, Told, told_number, tells}
 use Rattle.coherence.specs.Promise.{Stands, Done}
@@ -42,9 +42,9 @@ module _ {A B : Type 0} (ma : Meaning A) (mb : Meaning B) where
   told_one None a t there = absurd (none_stands t there)
   told_one (Some x) None t there = absurd (none_stands t there)
   told_one (Some x) (Some v) t (zero, is) =
-      let same = same_element (record { party = x.0; sequence = x.1; value = v }) t is in
+      let same = same_Some (record { party = x.0; sequence = x.1; value = v }) t is in
       (ap (λ (k : Told). Some (k.party, k.sequence)) same, ap (λ (k : Told). Some k.value) same)
-  told_one (Some x) (Some v) t (suc i, is) = absurd (nowhere i t is)
+  told_one (Some x) (Some v) t (suc i, is) = absurd (none-some t is)
 
   module _ (f : Figures) (c : Call) (h : History A B) (e : Effect A B) (known : Known ma mb f h) (later : Known ma mb f (grown ma mb c h e)) (time : Timely h.world e) (true_now : Truthful h) where
     abbrev w : World A B
@@ -70,7 +70,7 @@ module _ {A B : Type 0} (ma : Meaning A) (mb : Meaning B) where
     by_load q n p r same reacts does says t number answer =
         let x = some_there r.entry (load_enters (processor_at w p) p n r reacts) in
         let k = load_tells (processor_at w p) p n r reacts x.0 x.1 t.value (sym says ∙ answer) in
-        let parts = same_element (q, (processor_at w q).sequence) (t.party, t.sequence) number in
+        let parts = same_Some (q, (processor_at w q).sequence) (t.party, t.sequence) number in
         let party : x.0.party ≡ t.party = k.0 ∙ same ∙ ap (λ (y : ℕ × ℕ). y.0) parts in
         let sequence : x.0.sequence ≡ t.sequence = k.1 ∙ ap (λ (y : ℕ). (processor_at w y).sequence) same ∙ ap (λ (y : ℕ × ℕ). y.1) parts in
         (record { entry = x.0; stands = trail_new ma mb f c h e known later time x.0 (does ∙ x.1); by = party; numbered = sequence }, k.2)
@@ -80,7 +80,7 @@ module _ {A B : Type 0} (ma : Meaning A) (mb : Meaning B) where
         let filled : slot_at (processor_at w q).slots d ≡ Came t.value = subst (λ (y : ℕ). slot_at (processor_at w y).slots d ≡ Came t.value) same (collect_tells (processor_at w p) p d r reacts t.value (sym says ∙ answer)) in
         let x = true_now.came q d t.value small two filled in
         let is_it : Some (q, x.number) ≡ Some (t.party, t.sequence) = ap (λ (o : Option ℕ). option_map (λ (n : ℕ). (q, n)) o) (sym x.latest) ∙ number in
-        let parts = same_element (q, x.number) (t.party, t.sequence) is_it in
+        let parts = same_Some (q, x.number) (t.party, t.sequence) is_it in
         lifted t
         (record { entry = x.done.entry; stands = x.done.stands; by = x.done.by ∙ ap (λ (y : ℕ × ℕ). y.0) parts; numbered = x.done.numbered ∙ ap (λ (y : ℕ × ℕ). y.1) parts })
         x.value

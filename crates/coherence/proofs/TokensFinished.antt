@@ -1,5 +1,5 @@
 -- Tokens after a home that has heard all does what it was asked for and replies.
-use Rattle.std.proofs.Common.{◌≡◌, ℕ, ◌+◌, ◌<◌, ◌≤◌, Bool, true, false, cond, ◌&&◌, ◌||◌, eqb, List, [], ◌∷◌, length, Some, None, Option, refl, ap, ◌∙◌, ⊎_elim, arith, length-set}
+use Rattle.std.proofs.Common.{◌≡◌, ℕ, ◌+◌, ◌<◌, ◌≤◌, Bool, true, false, cond, ◌&&◌, ◌||◌, eqb, List, [], ◌∷◌, length, None, Option, refl, ap, ◌∙◌, ⊎_elim, arith, length-set}
 use Rattle.home.specs.Directories.{round_of}
 use Rattle.home.specs.Laws.{has_replied}
 use Rattle.home.specs.Reactions.{reply}
@@ -44,10 +44,6 @@ reply_token : (b : ℕ) (r : Request) (w : Words) (c : ℕ) → is_request r.kin
     → (kind_number r.kind ≡ 4 → r.requester < 4) → (kind_number r.kind ≡ 6 → is_device r.requester ≡ true)
     → (token (reply b r w c) ≡ reply_number (kind_number r.kind)) × (peer (reply b r w c) ≡ r.requester)
 reply_token b r w c is small device = grind arith
-
-outs_most : (o : Option Kind) → out_is o 1 + out_is o 2 + out_is o 3 + out_is o 4 + out_is o 5 + out_is o 6 ≤ 1
-outs_most None = omega arith
-outs_most (Some k) = grind arith
 
 -- the holders with the requester p among them, if it gets a copy
 given : (c : Bool) (s : Processors) (p : ℕ) → (c ≡ true → p < 4) → length s.at ≡ 4 → (q : ℕ)

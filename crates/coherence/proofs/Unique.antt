@@ -1,57 +1,32 @@
 -- What follows from the balance of numbered operations: no two entries have one party and number.
-use Rattle.std.proofs.Common.{◌≡◌, ℕ, zero, suc, ◌<◌, ◌≤◌, Bool, true, false, eqb, ltb, List, [], ◌∷◌, length, get_or, Some, sym, refl, ap, arith}
+use Rattle.std.proofs.Common.{◌≡◌, ℕ, zero, suc, ◌≤◌, Bool, true, eqb, ltb, List, [], ◌∷◌, Some, sym, refl, ap, arith}
 use Rattle.std.proofs.lemmas.Bool.{and_from, eq-eqb}
+use Rattle.std.proofs.lemmas.Option.{none-some, same_Some}
 use Rattle.std.specs.List.{slice_get}
 use Rattle.trail.specs.declared.entry.Entry.{Entry}
 use Rattle.coherence.proofs.Carrying.{Balanced, done_as, next_number}
-use Rattle.coherence.proofs.Counting.{indicator, count, count_cons, count_none, count_nth, indicator_most}
-use Rattle.coherence.proofs.Rising.{nowhere, same_element}
-use Rattle.coherence.specs.Promise.{Stands}
+use Rattle.coherence.proofs.Counting.{indicator, count, count_cons, count_nth, indicator_most}
 use Rattle.coherence.specs.Worlds.{World}
 
 module _ {X : Type 0} (p : X → Bool) where
   -- where at most one passes, two places that pass are one
   pub only_place : (xs : List X) → count p xs ≤ 1 → (i j : ℕ) (x y : X) → slice_get xs i ≡ Some x → slice_get xs j ≡ Some y → p x ≡ true → p y ≡ true → i ≡ j
-  only_place [] most i j x y at there one two = absurd (nowhere i x at)
+  only_place [] most i j x y at there one two = absurd (none-some x at)
   only_place (z ∷ xs) most zero zero x y at there one two = refl
   only_place (z ∷ xs) most zero (suc j) x y at there one two =
-      let here = ap (λ u. indicator (p u)) (same_element z x at) in
+      let here = ap (λ u. indicator (p u)) (same_Some z x at) in
       let first = ap indicator one in
       let later = count_nth p xs j y there in
       let second = ap indicator two in
       absurd (omega (arith, count_cons p z xs))
   only_place (z ∷ xs) most (suc i) zero x y at there one two =
-      let here = ap (λ u. indicator (p u)) (same_element z y there) in
+      let here = ap (λ u. indicator (p u)) (same_Some z y there) in
       let first = ap indicator two in
       let later = count_nth p xs i x at in
       let second = ap indicator one in
       absurd (omega (arith, count_cons p z xs))
   only_place (z ∷ xs) most (suc i) (suc j) x y at there one two =
       ap suc (only_place xs (omega (arith, count_cons p z xs)) i j x y at there one two)
-
-  -- what is counted stands somewhere
-  pub some_place : (xs : List X) → 1 ≤ count p xs → (x : X) × Stands xs x × (p x ≡ true)
-  some_place [] some = absurd (omega (arith, count_none p))
-  some_place (z ∷ xs) some = go (p z) refl (some_place xs)
-    where
-      go : (b : Bool) → p z ≡ b → (1 ≤ count p xs → (x : X) × Stands xs x × (p x ≡ true)) → (x : X) × Stands (z ∷ xs) x × (p x ≡ true)
-      go true is later = (z, (0, refl), is)
-      go false is later =
-          let none = ap indicator is in
-          let rest = later (omega (arith, count_cons p z xs)) in
-          (rest.0, (suc rest.1.0, rest.1.1), rest.2)
-
-  pub some_index : (d : X) (xs : List X) → 1 ≤ count p xs → (i : ℕ) × (i < length xs) × (p (get_or xs i d) ≡ true)
-  some_index d [] some = absurd (omega (arith, count_none p))
-  some_index d (z ∷ xs) some = go (p z) refl (some_index d xs)
-    where
-      go : (b : Bool) → p z ≡ b → (1 ≤ count p xs → (i : ℕ) × (i < length xs) × (p (get_or xs i d) ≡ true)) → (i : ℕ) × (i < length (z ∷ xs)) × (p (get_or (z ∷ xs) i d) ≡ true)
-      go true is later = (0, omega arith, is)
-      go false is later =
-          let none = ap indicator is in
-          let rest = later (omega (arith, count_cons p z xs)) in
-          let less = rest.1 in
-          (suc rest.0, omega arith, rest.2)
 
 numbered_as : (e : Entry) → done_as e.party e.sequence e ≡ true
 numbered_as e = and_from (eqb e.party e.party) (eqb e.sequence e.sequence) (eq-eqb e.party e.party refl) (eq-eqb e.sequence e.sequence refl)

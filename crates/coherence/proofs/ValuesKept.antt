@@ -10,6 +10,7 @@ use Rattle.ordering.specs.Operations.{is_read}
 use Rattle.processor.specs.Lines.{held_words}
 use Rattle.std.proofs.lemmas.List.FromFn.{get_or-map-range_with_len}
 use Rattle.std.proofs.lemmas.Bool.{false≢true}
+use Rattle.std.proofs.lemmas.Option.{same_Some}
 use Rattle.trail.specs.declared.address.Address.{Address}
 use Rattle.trail.specs.declared.entry.Entry.{Entry}
 use Rattle.coherence.proofs.Arising.{never}
@@ -21,7 +22,6 @@ use Rattle.coherence.proofs.Counting.{indicator}
 use Rattle.coherence.proofs.Moves.{Moves, Passes, once, twice, rests, loads, stores, requests, invalidates_shared, invalidates_owned, downgrades, shares, owns, betters, gives_back, lands, stored, nacked, again, refuses, asks_holders, hears, finishes, frees}
 use Rattle.coherence.proofs.FormsKept.{nobody_has}
 use Rattle.coherence.proofs.Reading.{Reads, current, no_read}
-use Rattle.coherence.proofs.Rising.{same_element}
 use Rattle.coherence.proofs.Sole.{copies_add, held_most}
 use Rattle.coherence.proofs.Tokens.{Tokens, held, holder, out_is}
 use Rattle.coherence.proofs.TokensFinished.{Near}
@@ -52,12 +52,12 @@ module _ (b : ℕ) (start : Address → ℕ) (x y : Block) (t : Tokens x) (v : V
       let asks = ap (λ o. out_is o 1) g.asked in
       let sum = copies_add (x.line p) in
       takes_copy_values b start x y v p _ _ _ 13 m g
-      (λ ws is. subst (Says (now b start x.trail)) (same_element m.words ws is) (brought b start x y v p _ _ _ 13 m g refl)) refl (omega arith)
+      (λ ws is. subst (Says (now b start x.trail)) (same_Some m.words ws is) (brought b start x y v p _ _ _ 13 m g refl)) refl (omega arith)
   values_moved (owns p m small g) =
       let sum = copies_add (x.line p) in
       let most = held_most (x.line p) in
       takes_copy_values b start x y v p _ _ _ 14 m g
-      (λ ws is. subst (Says (now b start x.trail)) (same_element m.words ws is) (brought b start x y v p _ _ _ 14 m g refl)) refl (omega arith)
+      (λ ws is. subst (Says (now b start x.trail)) (same_Some m.words ws is) (brought b start x y v p _ _ _ 14 m g refl)) refl (omega arith)
   values_moved (betters p ws m small g) =
       takes_copy_values b start x y v p _ _ _ 15 m g (λ vs is. v.copies p vs (ap held_words g.was ∙ is)) refl (omega arith)
   values_moved (gives_back p m small g) = takes_values b start x y v p _ 16 m refl g

@@ -15,18 +15,18 @@ use Rattle.processor.specs.declared.line.Line.TheVariants.{Invalid, Shared, Excl
 use Rattle.std.proofs.ByRecursion.{all-has, All-weaker}
 use Rattle.std.proofs.lemmas.List.{get_or-set_other, get_or-set_same, length-set}
 use Rattle.std.proofs.lemmas.Bool.{and_from, and_left, both_ways, cases_Bool, cases_eq, eq-eqb, eqb-true, ltb-true, ne_eqb, or_cases}
+use Rattle.std.proofs.lemmas.Option.{same_Some}
 use Rattle.std.specs.List.{ContainsAt as Has, AllByRecursion as All}
 use Rattle.trail.specs.Addresses.{covers}
 use Rattle.trail.specs.declared.address.Address.{Address}
 use Rattle.trail.specs.declared.entry.Entry.{Entry}
 use Rattle.coherence.proofs.Arising.{never}
-use Rattle.coherence.proofs.Blocks.{Block, Posted, all_from_has, hits, peer, pending, pending_is, token}
-use Rattle.coherence.proofs.Bounds.{posted_none}
+use Rattle.coherence.proofs.Blocks.{Block, all_from_has, hits, peer, pending, pending_is, token}
+use Rattle.coherence.proofs.Bounds.{posted_same}
 use Rattle.coherence.proofs.Counting.{none_passes}
 use Rattle.coherence.proofs.DeviceWords.{address}
 use Rattle.coherence.proofs.Moves.{Loads, Operates, Stores}
 use Rattle.coherence.proofs.Reading.{Reads, current, current_kept, current_push}
-use Rattle.coherence.proofs.Rising.{same_element}
 use Rattle.coherence.proofs.Shifts.{put_here, put_there}
 use Rattle.coherence.proofs.Sole.{no_data, sole}
 use Rattle.coherence.proofs.Tokens.{Tokens, held, owned}
@@ -97,16 +97,13 @@ module _ (p w c : ℕ) (e : Entry) where
       same (inr apart) = ne_eqb (4 * b + i) w (λ is. apart (omega arith)) ∙ sym (ne_eqb i (w % 4) apart)
 
 module _ (b : ℕ) (start : Address → ℕ) (x y : Block) (v : Values b start x) where
-  still : y.messages ≡ x.messages → Posted x.messages [] [] y.messages
-  still same = subst (λ (ms : List (Message ℕ)). Posted x.messages [] [] ms) (sym same) (posted_none x.messages)
-
   module _ (p w : ℕ) (ws : Words) (e : Entry) (r : Loads b x y p w ws e) where
     pub loads_values : Values b start y
     loads_values =
         valued_still (now b start x.trail) (now b start y.trail) y.line y.home y.messages
         (λ i _. now_kept b start x.trail y.trail e (ap is_write r.entry.operation) r.trail i)
         (valued_on _ x y [] [] v r.lines (ap (λ (h : Home ℕ). h.words) r.home)
-        (ap (λ (h : Home ℕ). length (round_of h.directory).request.words.at) r.home ∙ v.request_four) (still r.messages) tt tt tt)
+        (ap (λ (h : Home ℕ). length (round_of h.directory).request.words.at) r.home ∙ v.request_four) (posted_same x.messages y.messages r.messages) tt tt tt)
 
     pub loads_reads : Reads (current start x.trail) e
     loads_reads = loads_read p w (x.clock p) e b start x.trail ws r.word (v.copies p ws r.held) r.entry
@@ -147,7 +144,7 @@ module _ (b : ℕ) (start : Address → ℕ) (x y : Block) (v : Values b start x
         copy : (q : ℕ) (vs : Words) → (eqb p q ≡ true) ⊎ (eqb p q ≡ false) → held_words (y.line q) ≡ Some vs → Says (now b start y.trail) vs
         copy q vs (inl same) is =
             let line : y.line q ≡ Exclusive (with_word ws w n) = ap y.line (sym (eqb-true p q same)) ∙ here in
-            let words : with_word ws w n ≡ vs = same_element (with_word ws w n) vs (sym (ap held_words line) ∙ is) in
+            let words : with_word ws w n ≡ vs = same_Some (with_word ws w n) vs (sym (ap held_words line) ∙ is) in
             subst (Says (now b start y.trail)) words rewritten
         copy q vs (inr apart) is =
             let none : held (x.line q) ≡ 0 = sole x t p owns q (λ s. both_ways (eqb p q) apart (eq-eqb p q s)) in

@@ -1,5 +1,5 @@
 -- Moves in which no data goes or comes and no copy changes: the values of a block stay.
-use Rattle.std.proofs.Common.{◌≡◌, ℕ, true, false, cond, eqb, ◌⊎◌, List, [], ◌∷◌, length, sym, refl, ap, ◌∙◌, subst, inl, inr, arith}
+use Rattle.std.proofs.Common.{◌≡◌, ℕ, true, false, List, [], ◌∷◌, length, refl, ap, ◌∙◌, arith}
 use Rattle.home.specs.Directories.{round_of}
 use Rattle.home.specs.Requests.{asks_by}
 use Rattle.home.specs.declared.machine.Home.{Home}
@@ -10,14 +10,14 @@ use Rattle.message.specs.Nodes.{home_node}
 use Rattle.message.specs.declared.kind.Kind.{Kind}
 use Rattle.message.specs.declared.message.Message.{Message}
 use Rattle.ordering.specs.declared.operation.Words.{Words}
-use Rattle.std.proofs.lemmas.Bool.{cases_Bool, eqb-true}
 use Rattle.std.proofs.lemmas.Bool.Decides.{nat_tests}
 use Rattle.trail.specs.declared.address.Address.{Address}
 use Rattle.coherence.proofs.Blocks.{Block, Posted, posted_gone, token}
-use Rattle.coherence.proofs.Bounds.{posted_none}
+use Rattle.coherence.proofs.Bounds.{posted_same}
 use Rattle.coherence.proofs.Classes.{refusal_of}
 use Rattle.coherence.proofs.Moves.{AsksHolders, Frees, Nacked, Requests, Rests, Returns, Takes}
 use Rattle.coherence.proofs.MovesHomes.{each_asked}
+use Rattle.coherence.proofs.Shifts.{put_same}
 use Rattle.coherence.proofs.Values.{Bare, Four, Values, bare, carries, valued_on, values_along}
 
 pub request_bare : (k : Kind) → is_request k ≡ true → carries (kind_number k) ≡ false
@@ -43,7 +43,7 @@ module _ (b : ℕ) (start : Address → ℕ) (x y : Block) (v : Values b start x
   pub rests_values : Rests b x y → Values b start y
   rests_values r =
       values_along b start x y r.trail (valued_on _ x y [] [] v r.lines (same_words r.home) (same_request r.home)
-      (subst (λ (ms : List (Message ℕ)). Posted x.messages [] [] ms) (sym r.messages) (posted_none x.messages)) tt tt tt)
+      (posted_same x.messages y.messages r.messages) tt tt tt)
 
   pub requests_values : (n : ℕ) (k : Kind) (m : Message ℕ) → is_request k ≡ true → Requests b x y n k m → Values b start y
   requests_values n k m is r =
@@ -64,15 +64,8 @@ module _ (b : ℕ) (start : Address → ℕ) (x y : Block) (v : Values b start x
   -- a reply that leaves the line as it was
   pub takes_values : (n : ℕ) (k : Kind) (c : ℕ) (m : Message ℕ) → carries c ≡ false → Takes b x y n k (x.line n) (x.line n) c m → Values b start y
   takes_values n k c m out r =
-      values_along b start x y r.trail (valued_on _ x y (m ∷ []) _ v lines (same_words r.home) (same_request r.home)
+      values_along b start x y r.trail (valued_on _ x y (m ∷ []) _ v (λ q. r.lines q ∙ put_same n q x.line) (same_words r.home) (same_request r.home)
       r.messages (bare m c r.class out, tt) (refl, tt) (refl, tt))
-    where
-      lines : (q : ℕ) → y.line q ≡ x.line q
-      lines q = r.lines q ∙ go (cases_Bool (eqb n q))
-        where
-          go : (eqb n q ≡ true) ⊎ (eqb n q ≡ false) → cond (eqb n q) (x.line n) (x.line q) ≡ x.line q
-          go (inl here) = rw here (ap x.line (eqb-true n q here))
-          go (inr there) = rw there refl
 
   -- the home takes a request, whose words it keeps
   pub asks_values : (m : Message ℕ) (t s : Processors) → AsksHolders b x y m t s → Values b start y

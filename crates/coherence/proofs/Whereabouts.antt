@@ -1,5 +1,5 @@
 -- Every operation that was issued is done, or something carries it: so where nothing can, it is done.
-use Rattle.std.proofs.Common.{◌≡◌, ℕ, zero, suc, ◌+◌, ◌-◌, ◌<◌, ◌≤◌, true, false, ◌||◌, eqb, ◌⊎◌, List, [], ◌∷◌, length, get_or, Some, None, sym, refl, ap, subst, inl, inr, ⊎_elim, arith}
+use Rattle.std.proofs.Common.{◌≡◌, ℕ, ◌+◌, ◌-◌, ◌<◌, ◌≤◌, true, false, ◌||◌, eqb, ◌⊎◌, List, length, get_or, Some, None, sym, refl, ap, subst, inl, inr, ⊎_elim, arith}
 use Rattle.device.specs.Meaning.{Meaning}
 use Rattle.home.specs.declared.machine.Home.{Home}
 use Rattle.message.specs.Kinds.{same_kind}
@@ -16,13 +16,13 @@ use Rattle.ordering.specs.declared.operation.Operation.TheVariants.{LdIo}
 use Rattle.ordering.specs.declared.order.Access.{Access}
 use Rattle.std.proofs.lemmas.Bool.{and_parts, eqb-true, lt-ltb, cases_lt, both_ways}
 use Rattle.std.proofs.lemmas.Bool.Decides.{nat_tests}
+use Rattle.std.proofs.lemmas.Option.{get_or_from_slice_get, slice_get_within}
 use Rattle.std.specs.List.{slice_get}
 use Rattle.trail.specs.declared.entry.Entry.{Entry}
 use Rattle.coherence.proofs.Carrying.{carries, serves, done_as, entry_access, carried_access, served_access, issued_as, next_number}
 use Rattle.coherence.proofs.Counting.{indicator, count}
 use Rattle.coherence.proofs.FormsBuilt.{Well}
 use Rattle.coherence.proofs.Orderly.{is_memory, asks_about, gathers_for, requests_at, Known}
-use Rattle.coherence.proofs.Rising.{nowhere, same_element}
 use Rattle.coherence.proofs.Slots.{awaits}
 use Rattle.coherence.proofs.Standing.{stands_all, counted_stands, pairs_order}
 use Rattle.coherence.proofs.Tally.{crosses, traffic_out}
@@ -31,9 +31,7 @@ use Rattle.coherence.specs.Promise.{Stands}
 use Rattle.coherence.specs.Worlds.{World, processor_at, home_at, no_home}
 
 pub nth_inside : {X : Type 0} (xs : List X) (i : ℕ) (x d : X) → slice_get xs i ≡ Some x → (i < length xs) × (get_or xs i d ≡ x)
-nth_inside [] i x d is = absurd (nowhere i x is)
-nth_inside (y ∷ xs) zero x d is = (omega arith, same_element y x is)
-nth_inside (y ∷ xs) (suc i) x d is = let n = nth_inside xs i x d is in (omega (arith, n.0), n.1)
+nth_inside xs i x d is = (slice_get_within xs i x is, get_or_from_slice_get xs i x d is)
 
 -- what a message carries
 carries_no_memory : (m : Message ℕ) → is_memory (carried_access m).operation ≡ false

@@ -1,5 +1,5 @@
 -- What a plan leads to is what it says: its messages, its entries and its numbers.
-use Rattle.std.proofs.Common.{◌≡◌, ℕ, ◌+◌, ◌≤◌, cond, List, ◌++◌, length, is_some, Some, None, Ok, Err, Option, refl, ap, ◌∙◌, arith}
+use Rattle.std.proofs.Common.{◌≡◌, ℕ, ◌+◌, ◌≤◌, cond, List, ◌++◌, length, is_some, Some, None, Ok, Err, Option, Result, refl, ap, ◌∙◌, arith}
 use Rattle.bridge.proofs.Writing.{plans_are_kept}
 use Rattle.bridge.specs.Deeds.{performed}
 use Rattle.bridge.specs.Plans.{sends, enters, plan_within}
@@ -53,16 +53,33 @@ module _ {S : Type 0} (m : Meaning S) (d : ℕ) (b : Bridge S ℕ) where
         answer = tells_nothing p p.deed refl;
       }
 
-module _ {S : Type 0} (p : Plan ℕ) (x : Reaction (Bridge S ℕ)) (k : Kept p x) (d : ℕ) (ws : List (Message ℕ)) (mr : ℕ) (es : List Entry) (tr : ℕ) where
-  pub refuses : (f : Fault) (b : Bridge S ℕ) (ms : List (Message ℕ))
-      → Err f ≡ fitting d p (length ws) (sends p.deed) mr (length es) (cond (enters p.deed) 1 0) tr
-      → (Err f, b, ms, es) ≡ plan_committed d b x ms ws mr es tr
-  refuses f b ms is = let m = k.messages in let e = k.entries in let w = k.within in grind (arith, nat_tests)
+-- What fits is committed: the plan with its numbers at rest, done, is what the plan leads to.
+module _ {S : Type 0} (m : Meaning S) (d : ℕ) (b : Bridge S ℕ) (p : Plan ℕ) (ws : List (Message ℕ)) (mr : ℕ) (es : List Entry) (tr : ℕ) where
+  pub refuses : (r : Result (Plan ℕ) Fault) (f : Fault) (ms : List (Message ℕ)) → r ≡ Err f
+      → r ≡ fitting d p (length ws) (sends p.deed) mr (length es) (cond (enters p.deed) 1 0) tr
+      → (Err f, b, ms, es) ≡ plan_committed d b (planned m d b p) ms ws mr es tr
+  refuses r f ms is fits = let k = keeps m d b p in let s = k.messages in let e = k.entries in let w = k.within in grind (arith, nat_tests)
 
-  pub has_room : (q : Plan ℕ) → Ok q ≡ fitting d p (length ws) (sends p.deed) mr (length es) (cond (enters p.deed) 1 0) tr
-      → (q ≡ p) × (length ws + sent_count x.sent ≤ mr) × (length es + length (option_to_list x.entry) ≤ tr)
-  has_room q is = let m = k.messages in let e = k.entries in let w = k.within in grind (arith, nat_tests)
+  pub has_room : (r : Result (Plan ℕ) Fault) (q : Plan ℕ) → r ≡ Ok q
+      → r ≡ fitting d p (length ws) (sends p.deed) mr (length es) (cond (enters p.deed) 1 0) tr
+      → (length ws + sent_count (planned m d b q).sent ≤ mr) × (length es + length (option_to_list (planned m d b q).entry) ≤ tr)
+  has_room r q is fits =
+      let k = keeps m d b p in
+      let s = k.messages in
+      let e = k.entries in
+      let w = k.within in
+      let same : q ≡ p = grind (arith, nat_tests) in
+      rw same (grind (arith, nat_tests))
 
-  pub commits : (q : Plan ℕ) (b : Bridge S ℕ) (ms : List (Message ℕ)) → Ok q ≡ fitting d p (length ws) (sends p.deed) mr (length es) (cond (enters p.deed) 1 0) tr
-      → (Ok None, x.next, ws ++ sent x.sent, es ++ option_to_list x.entry) ≡ plan_committed d b x ms ws mr es tr
-  commits q b ms is = let m = k.messages in let e = k.entries in let w = k.within in let a = k.answer in grind (arith, nat_tests)
+  pub commits : (r : Result (Plan ℕ) Fault) (q : Plan ℕ) (ms : List (Message ℕ)) → r ≡ Ok q
+      → r ≡ fitting d p (length ws) (sends p.deed) mr (length es) (cond (enters p.deed) 1 0) tr
+      → (Ok None, (planned m d b q).next, ws ++ sent (planned m d b q).sent, es ++ option_to_list (planned m d b q).entry)
+      ≡ plan_committed d b (planned m d b p) ms ws mr es tr
+  commits r q ms is fits =
+      let k = keeps m d b p in
+      let s = k.messages in
+      let e = k.entries in
+      let w = k.within in
+      let a = k.answer in
+      let same : q ≡ p = grind (arith, nat_tests) in
+      rw same (grind (arith, nat_tests))

@@ -1,16 +1,10 @@
 -- What a list of messages is once one is taken out, and once an outbox is emptied into it.
-use Rattle.std.proofs.Common.{◌≡◌, ℕ, ◌+◌, ◌-◌, ◌<◌, ◌≤◌, ltb, List as Seq, [], ◌∷◌, ◌++◌, length, get_or, drop, Some, None, Option, sym, ap, ◌∙◌, subst, add-one, arith, drop-cons, lt-ltb}
-use Rattle.list.specs.Contents.{pushed, removed}
+use Rattle.std.proofs.Common.{◌≡◌, ℕ, ◌+◌, ◌<◌, ◌≤◌, ltb, List as Seq, [], ◌∷◌, ◌++◌, length, get_or, drop, Some, None, Option, ap, ◌∙◌, subst, add-one, arith, drop-cons, lt-ltb}
+use Rattle.list.specs.Contents.{pushed}
 use Rattle.message.specs.Reactions.{gathered}
 use Rattle.message.specs.declared.message.Message.{Message}
-use Rattle.std.proofs.lemmas.List.{append_assoc, append-nil, drop_all, length-append, length-drop, length-take}
+use Rattle.std.proofs.lemmas.List.{append_assoc, length-append}
 use Rattle.std.proofs.lemmas.Bool.{cond-true}
-
-pub one_less : {T : Type 0} (xs : Seq T) (i : ℕ) → i < length xs → length xs - 1 ≡ length (removed xs i)
-one_less xs i h = simp (length-append, length-take, length-drop) (omega arith)
-
-pub none_less : {T : Type 0} (xs : Seq T) (i : ℕ) → length xs ≤ i → length xs ≡ length (removed xs i)
-none_less xs i h = simp (length-append, length-take, length-drop) (omega arith)
 
 -- xs waits, os from place i on is still to be sent, all is what will wait.
 module _ (xs all : Seq (Message ℕ)) (os : Seq (Option (Message ℕ))) (i cap : ℕ) (inside : i < length os)
@@ -34,9 +28,3 @@ module _ (xs all : Seq (Message ℕ)) (os : Seq (Option (Message ℕ))) (i cap :
   sends_none is =
       let whole = subst (λ (ys : Seq (Option (Message ℕ))). xs ++ gathered ys ≡ all) next so_far in
       subst (λ (o : Option (Message ℕ)). xs ++ gathered (o ∷ drop (i + 1) os) ≡ all) is whole
-
-pub all_sent : (xs all : Seq (Message ℕ)) (os : Seq (Option (Message ℕ))) (i : ℕ) → length os ≤ i → xs ++ gathered (drop i os) ≡ all → xs ≡ all
-all_sent xs all os i h e =
-    let d = drop_all i os h in
-    let f = subst (λ (ys : Seq (Option (Message ℕ))). xs ++ gathered ys ≡ all) d e in
-    sym (append-nil xs) ∙ f

@@ -1,6 +1,7 @@
 -- One call more: the world and the answers after it.
-use Rattle.std.proofs.Common.{◌≡◌, ℕ, suc, ◌+◌, ◌<◌, List, [], ◌∷◌, ◌++◌, length, get_or, take, set, Ok, Err, sym, refl, ap, ◌∙◌, arith}
-use Rattle.coherence.specs.Histories.{History, answered, called_on, after_calls, began, run}
+use Rattle.std.proofs.Common.{◌≡◌, ℕ, suc, ◌+◌, ◌<◌, List, [], ◌∷◌, ◌++◌, length, get_or, take, set, sym, refl, ap, ◌∙◌, arith}
+use Rattle.coherence.proofs.Running.{answered_world}
+use Rattle.coherence.specs.Histories.{History, called_on, after_calls, began, run}
 use Rattle.coherence.specs.Makings.{Making, make}
 use Rattle.coherence.specs.Steps.{Answer, step}
 use Rattle.coherence.specs.Worlds.{World}
@@ -47,15 +48,24 @@ module _ {A B : Type 0} (ma : Meaning A) (mb : Meaning B) where
       let more = ap (answers_of ma mb w) (take_more cs i d h) ∙ answers_push w (take i cs) (get_or cs i d) in
       sym (ap (overlaid was) more ∙ overlaid_more was now new ∙ ap (λ (n : ℕ). set (overlaid was now) n new) long)
 
-  answered_world : (c : Call) (h : History A B) (r : Answer) (w : World A B) → (answered ma mb c h r w).world ≡ w
-  answered_world c h (Ok v) w = refl
-  answered_world c h (Err f) w = refl
+  -- a call made on the world so far, its answer written behind those so far
+  pub turn : (start : World A B) (cs : List Call) (i : ℕ) (d : Call) (was so_far : List Answer) (w v : World A B) (r : Answer) → i < length cs
+      → (r, v) ≡ step ma mb (get_or cs i d) w
+      → w ≡ world_after ma mb start (take i cs) → so_far ≡ overlaid was (answers_of ma mb start (take i cs))
+      → (v ≡ world_after ma mb start (take (i + 1) cs)) × (set so_far i r ≡ overlaid was (answers_of ma mb start (take (i + 1) cs)))
+  turn start cs i d was so_far w v r h made at told = rw told (
+    ap (λ (o : Answer × World A B). o.1) here ∙ world_more start cs i d h,
+    ap (λ (o : Answer × World A B). set (overlaid was (answers_of ma mb start (take i cs))) i o.0) here ∙ answers_more start cs i d was h,
+  )
+    where
+      here : (r, v) ≡ step ma mb (get_or cs i d) (world_after ma mb start (take i cs))
+      here = made ∙ ap (step ma mb (get_or cs i d)) at
 
   after_world : (h : History A B) (cs : List Call) → (after_calls ma mb h cs).world ≡ world_after ma mb h.world cs
   after_world h [] = refl
   after_world h (c ∷ cs) =
       let o = step ma mb c h.world in
-      after_world (called_on ma mb c h) cs ∙ ap (λ (w : World A B). world_after ma mb w cs) (answered_world c h o.0 o.1)
+      after_world (called_on ma mb c h) cs ∙ ap (λ (w : World A B). world_after ma mb w cs) (answered_world ma mb c h o.0 o.1)
 
   -- the world of a run's history
   pub run_world : (k : Making A B) (cs : List Call) → (run ma mb k cs).world ≡ world_after ma mb (make ma mb k) cs

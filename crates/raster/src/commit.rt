@@ -72,6 +72,7 @@ fn commit_reaction<W: Settle>(
     Ok(rest)
 }
 
+#[tactic(auto, unfolding(crate::specs::Fitting::planned))]
 fn perform<D: Device>(bridge: &mut Bridge<D>, number: u8, plan: Plan) -> Outcome
     ensures exit { view D.Device.state bridge.new ≡ (planned D.Device.meaning number (view D.Device.state bridge.old) plan).next }
     ensures outcome { result ≡ outcome_of (planned D.Device.meaning number (view D.Device.state bridge.old) plan) }
@@ -79,6 +80,7 @@ fn perform<D: Device>(bridge: &mut Bridge<D>, number: u8, plan: Plan) -> Outcome
     bridge.perform(number, plan)
 }
 
+#[tactic(auto, using(crate::proofs::Planning::commits))]
 pub(crate) fn commit_plan<D: Device>(
     bridge: &mut Bridge<D>,
     messages: &mut List<Message>,

@@ -55,6 +55,7 @@ fn receiver(message: Message<u32>) -> Option<Node>
 }
 
 // The message reaches one bridge.
+#[tactic(auto, unfolding(crate::specs::Fitting::planned))]
 fn reach_at<D: Device>(
     bridge: &mut Bridge<D>,
     messages: &mut List<Message>,

@@ -21,6 +21,7 @@ use message::message::Message;
 use trail::entry::Entry;
 
 // The wish of the device at one bridge.
+#[tactic(auto, unfolding(crate::specs::Fitting::planned))]
 fn act_at<D: Device>(
     bridge: &mut Bridge<D>,
     messages: &mut List<Message>,
@@ -36,6 +37,7 @@ fn act_at<D: Device>(
 }
 
 impl<A: Device, B: Device> Board<A, B> {
+    #[tactic(auto, using(crate::proofs::Lifting::first_wish, crate::proofs::Lifting::second_wish))]
     /// Does the wish of a device.
     pub fn act(
         &mut self,

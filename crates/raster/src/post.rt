@@ -14,7 +14,6 @@ use message::reaction::Outbox;
 use trail::entry::Entry;
 
 // How many messages wait once the one at `taken` is out.
-#[tactic(auto, using(crate::proofs::Posting::one_less, crate::proofs::Posting::none_less))]
 fn waiting(messages: &List<Message>, taken: Option<usize>) -> usize
     ensures { result ≡ length (left (contents messages.now) taken) }
 {

@@ -1,13 +1,9 @@
-use Rattle.std.proofs.Common.{arith, rules}
+use Rattle.std.proofs.Common.{arith}
 use Rattle.coherence.specs.Makings.{block_words}
 use Rattle.coherence.specs.Worlds.{no_home}
 use Rattle.home.specs.Homes.{new_home}
 use Rattle.raster.proofs.making.homes_from.Goals as goal
 use Rattle.std.proofs.lemmas.List.FromFn.{fill_by_all}
-use Rattle.std.proofs.lemmas.List.Edits.{fill_by_more}
-
-pub loop-block-preserved : goal.loop-block-preserved
-loop-block-preserved c = search (rules, fill_by_more (λ b. new_home c.args.clock (block_words c.args.words.now b)))
 
 pub returns : goal.returns
 returns c =

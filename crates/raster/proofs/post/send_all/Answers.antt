@@ -1,7 +1,7 @@
 use Rattle.std.proofs.Common.{◌≡◌, ◌≤◌, ◌++◌, ◌∙◌, length, arith, rules}
 use Rattle.list.specs.Contents.{contents, room}
 use Rattle.message.specs.Reactions.{gathered}
-use Rattle.raster.proofs.Posting.{sends_one, sends_none, all_sent}
+use Rattle.raster.proofs.Posting.{sends_one, sends_none}
 use Rattle.raster.proofs.post.send_all.Goals as goal
 use Rattle.raster.proofs.post.send_all.Goals.{in-Some, in_default}
 use Rattle.std.proofs.lemmas.List.{length-append}
@@ -25,9 +25,3 @@ loop-message-preserved c =
           let kept = sends_none (contents c.loop-message.messages) all os i cap (omega arith) fits step w.in_default.is in
           (cc, cc)
     ]
-
-pub returns : goal.returns
-returns c =
-    let four : length c.args.outbox.at ≡ 4 = search rules in
-    let sent = all_sent _ _ c.args.outbox.at c.loop-message.message-index (omega arith) c.loop-message.invariant.0 in
-    record { contents = sent; capacity = c.loop-message.invariant.1 }

@@ -1,10 +1,7 @@
-use Rattle.std.proofs.Common.{sym, ap, ◌∙◌}
 use Rattle.coherence.proofs.OrderPromise.{order_promise}
-use Rattle.coherence.specs.Worlds.{World}
 use Rattle.raster.proofs.Turns.{run_world}
 use Rattle.raster.proofs.run.run.Goals as goal
 use Rattle.raster.specs.Boards.{making}
-use Rattle.raster.specs.Runs.{world_after, answers_of, overlaid}
 
 pub returns : goal.returns
 returns g c =
@@ -15,12 +12,7 @@ returns g c =
     c.args.messages.now c.args.trail.now in
     let calls = c.args.calls.now in
     record {
-      world =
-          c.call_all.ensures.world
-          ∙ ap (λ (w : World g.A.Device.State g.B.Device.State). world_after ma mb w calls) c.make-board.ensures
-          ∙ sym (run_world ma mb k calls);
-      answers =
-          c.call_all.ensures.answers
-          ∙ ap (λ (w : World g.A.Device.State g.B.Device.State). overlaid c.args.answers.now (answers_of ma mb w calls)) c.make-board.ensures;
+      world = rw (run_world ma mb k calls, ← c.make-board.ensures) c.call_all.ensures.world;
+      answers = rw (← c.make-board.ensures) c.call_all.ensures.answers;
       promise = order_promise ma mb (record { laws = g.met.A.Device.lawful; four_words = g.met.A.Wishing.four_words }) (record { laws = g.met.B.Device.lawful; four_words = g.met.B.Wishing.four_words }) k calls;
     }
