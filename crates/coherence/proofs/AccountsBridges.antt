@@ -1,12 +1,10 @@
 -- What a bridge does and sends has the access that was issued under its number: its device's at a wish, and what came at
 -- a message.
-use Rattle.std.proofs.Common.{◌≡◌, ℕ, Bool, true, false, cond, ◌&&◌, eqb, ltb, Some, None, Ok, Err, Option, sym, refl, ap, ◌∙◌, subst, arith}
-use Rattle.bridge.specs.Acts.{act_on, any_out, interrupt, numbering, wish_message}
+use Rattle.std.proofs.Common.{◌≡◌, ℕ, Bool, true, false, cond, ◌&&◌, eqb, Some, None, Option, sym, refl, ap, ◌∙◌, subst, arith}
 use Rattle.bridge.specs.Deeds.{performed}
 use Rattle.bridge.specs.Inputs.{Act, Receive, reaction}
 use Rattle.bridge.specs.Receipts.{again, answering, receive_kind}
-use Rattle.bridge.specs.declared.fault.DeviceFault.TheVariants.{BadWish, MustWait, NoWish}
-use Rattle.bridge.specs.declared.plan.Deed.TheVariants.{Interrupt, Resend}
+use Rattle.bridge.specs.declared.plan.Deed.TheVariants.{Resend}
 use Rattle.bridge.specs.declared.state.Bridge.{Bridge}
 use Rattle.device.specs.Meaning.{Meaning}
 use Rattle.device.specs.declared.meaning.Wish.{Wish}
@@ -18,17 +16,12 @@ use Rattle.message.specs.declared.kind.Kind.{Kind}
 use Rattle.message.specs.declared.kind.Kind.TheVariants as kind
 use Rattle.message.specs.declared.message.Message.{Message}
 use Rattle.message.specs.declared.reaction.Reaction.{Reaction}
-use Rattle.ordering.specs.Words.{first_word, one_word}
-use Rattle.ordering.specs.declared.operation.Operation.{Operation}
-use Rattle.ordering.specs.declared.operation.Operation.TheVariants.{Ld, St, LdIo, StIo, Int, LdBlk, StBlk}
-use Rattle.ordering.specs.declared.operation.Words.{Words}
-use Rattle.ordering.specs.declared.order.Access.{Access}
 use Rattle.std.proofs.lemmas.Bool.{both_ways}
 use Rattle.std.proofs.lemmas.Bool.Decides.{nat_tests}
 use Rattle.std.proofs.lemmas.Option.{same_Some}
 use Rattle.trail.specs.declared.entry.Entry.{Entry}
 use Rattle.coherence.proofs.Arising.{never}
-use Rattle.coherence.proofs.BalanceBridges.{decided, known}
+use Rattle.coherence.proofs.BalanceBridges.{known}
 use Rattle.coherence.proofs.Carrying.{block_access, carries, carried_access, entry_access, is_block_request}
 use Rattle.coherence.proofs.Posting.{posted}
 use Rattle.coherence.specs.Histories.{wish_access}
@@ -39,43 +32,8 @@ module _ {S : Type 0} (m : Meaning S) where
     pub entry : (e : Entry) → r.entry ≡ Some e → (entry_access e ≡ wish_access d h) × (e.party ≡ device_node d) × (e.sequence ≡ b.sequence)
     pub sent : (x : Message ℕ) → posted r.sent ≡ Some x → (n q : ℕ) → carries n q x ≡ true → (carried_access x ≡ wish_access d h) × (n ≡ device_node d) × (q ≡ b.sequence)
 
-  -- an interrupt goes out as its message, whatever else the bridge looks at
-  interrupt_sends : (b : Bridge S ℕ) (d ps p v : ℕ) (r : Reaction (Bridge S ℕ)) → decided m d b (interrupt d b ps p v) ≡ Some r → posted r.sent ≡ Some (wish_message kind.Int d b p p (one_word v))
-  interrupt_sends b d ps p v r is = go (ltb p ps) (any_out b.requests) is
-    where
-      go : (x y : Bool)
-          → decided m d b (cond x (cond y (Err (MustWait d)) (Ok (numbering b b.clock (Interrupt (wish_message kind.Int d b p p (one_word v)))))) (Err (BadWish d))) ≡ Some r
-          → posted r.sent ≡ Some (wish_message kind.Int d b p p (one_word v))
-      go true true is = never cc
-      go true false is = let same : performed m d b (numbering b b.clock (Interrupt (wish_message kind.Int d b p p (one_word v)))) ≡ r = cc in ap (λ (x : Reaction (Bridge S ℕ)). posted x.sent) (sym same)
-      go false y is = never cc
-
-  interrupt_carries : (b : Bridge S ℕ) (d p : ℕ) (ws : Words) (n q : ℕ) → carries n q (wish_message kind.Int d b p p ws) ≡ true → (n ≡ device_node d) × (q ≡ b.sequence)
-  interrupt_carries b d p ws n q carried = grind (arith, nat_tests)
-
-  abbrev WishSent : Bridge S ℕ → ℕ → Access → Message ℕ → Type 0
-  WishSent b d a x = (n q : ℕ) → carries n q x ≡ true → (carried_access x ≡ a) × (n ≡ device_node d) × (q ≡ b.sequence)
-
-  as_wished : (o : Operation) (b : Bridge S ℕ) (d ps : ℕ) (h : Wish) (r : Reaction (Bridge S ℕ)) → h.operation ≡ o → decided m d b (act_on o m d ps b h) ≡ Some r → AsWished b d h r
-  as_wished Ld b d ps h r o is = record { entry = λ e does. grind (arith, nat_tests); sent = λ x posts n q carried. grind (arith, nat_tests) }
-  as_wished St b d ps h r o is = record { entry = λ e does. grind (arith, nat_tests); sent = λ x posts n q carried. grind (arith, nat_tests) }
-  as_wished LdIo b d ps h r o is = record { entry = λ e does. rw o (grind (arith, nat_tests)); sent = λ x posts n q carried. rw o (grind (arith, nat_tests)) }
-  as_wished StIo b d ps h r o is = record { entry = λ e does. rw o (grind (arith, nat_tests)); sent = λ x posts n q carried. rw o (grind (arith, nat_tests)) }
-  as_wished Int b d ps h r o is = record {
-    entry = λ e does. rw o (grind (arith, nat_tests));
-    sent = λ x posts. subst (WishSent b d (wish_access d h)) (same_Some _ x (sym (interrupt_sends b d ps h.processor (first_word h.words) r is) ∙ posts))
-        (λ n q carried. let own = interrupt_carries b d h.processor (one_word (first_word h.words)) n q carried in (rw o refl, own.0, own.1));
-  }
-  as_wished LdBlk b d ps h r o is = record { entry = λ e does. rw o (grind (arith, nat_tests)); sent = λ x posts n q carried. rw o (grind (arith, nat_tests)) }
-  as_wished StBlk b d ps h r o is = record { entry = λ e does. rw o (grind (arith, nat_tests)); sent = λ x posts n q carried. rw o (grind (arith, nat_tests)) }
-
   pub wished_so : (b : Bridge S ℕ) (d ps : ℕ) (r : Reaction (Bridge S ℕ)) → reaction m d b (Act ps) ≡ Some r → (h : Wish) × (m.wish b.device ≡ Some h) × AsWished b d h r
-  wished_so b d ps r is = go (m.wish b.device) refl is
-    where
-      go : (o : Option Wish) → m.wish b.device ≡ o → decided m d b (elim o [ None ↦ Err (NoWish d) | Some h ↦ act_on h.operation m d ps b h ]) ≡ Some r
-          → (h : Wish) × (m.wish b.device ≡ Some h) × AsWished b d h r
-      go None e is = never cc
-      go (Some h) e is = (h, e, as_wished h.operation b d ps h r refl is)
+  wished_so b d ps r is = grind (arith, nat_tests)
 
   -- What comes of a message that carries an operation is that operation.
   pub record AsCame (x : Message ℕ) (r : Reaction (Bridge S ℕ)) : Type 0 where

@@ -1,5 +1,5 @@
 -- What a processor does and sends has the access that was issued under its number: its own at a call, a device's at INT.
-use Rattle.std.proofs.Common.{◌≡◌, ℕ, ◌+◌, Bool, true, Some, None, Option, ap, subst, arith}
+use Rattle.std.proofs.Common.{◌≡◌, ℕ, ◌+◌, Bool, true, Some, None, Option, arith}
 use Rattle.message.specs.Kinds.{same_kind}
 use Rattle.message.specs.Nodes.{home_node}
 use Rattle.message.specs.declared.kind.Kind.TheVariants as kind
@@ -14,7 +14,6 @@ use Rattle.trail.specs.declared.entry.Entry.{Entry}
 use Rattle.coherence.proofs.Arising.{never}
 use Rattle.coherence.proofs.BalanceProcessors.{asks_only, request_posts}
 use Rattle.coherence.proofs.Carrying.{carries, carried_access, entry_access, issued_as}
-use Rattle.coherence.proofs.Counting.{indicator}
 use Rattle.coherence.proofs.Posting.{hit, posted}
 use Rattle.coherence.specs.Histories.{Issued, access}
 
@@ -39,10 +38,7 @@ call_enters s p i r h call e is = grind (arith, nat_tests)
 
 -- where nothing passes a test, nothing that is there does
 pub not_posted : {X : Type 0} (f : X → Bool) (o : Option X) (x : X) → hit f o ≡ 0 → o ≡ Some x → f x ≡ true → ⊥
-not_posted f o x none is passes =
-    let some : indicator (f x) ≡ 0 = subst (λ y. hit f y ≡ 0) is none in
-    let one = ap indicator passes in
-    omega arith
+not_posted f o x none is passes = grind (arith, nat_tests)
 
 pub call_posts : EachReaction (λ s p i r. message_of i ≡ None → (m : Message ℕ) → posted r.sent ≡ Some m → (n q : ℕ) → carries n q m ≡ true
     → (own_access i ≡ Some (carried_access m)) × (n ≡ p) × (q ≡ s.sequence))

@@ -1,5 +1,5 @@
 -- Every call keeps the balance of numbered operations: each is done once, carried once or served once.
-use Rattle.std.proofs.Common.{◌≡◌, ℕ, ◌+◌, ◌<◌, ◌≤◌, Bool, true, false, cond, ◌&&◌, eqb, ltb, ◌⊎◌, List, ◌++◌, length, get_or, set, Some, None, sym, refl, ap, subst, inl, inr, arith}
+use Rattle.std.proofs.Common.{◌≡◌, ℕ, ◌+◌, ◌<◌, ◌≤◌, Bool, false, ◌&&◌, eqb, ltb, ◌⊎◌, List, ◌++◌, length, get_or, set, Some, None, sym, refl, ap, subst, inl, inr, arith}
 use Rattle.bridge.specs.Inputs as bridge
 use Rattle.bridge.specs.declared.state.Bridge.{Bridge}
 use Rattle.device.specs.Meaning.{Meaning}
@@ -15,11 +15,10 @@ use Rattle.message.specs.declared.kind.Kind.{Kind}
 use Rattle.message.specs.declared.message.Message.{Message}
 use Rattle.message.specs.declared.reaction.Reaction.{Reaction}
 use Rattle.processor.specs.Inputs as processor
-use Rattle.processor.specs.States.{made}
 use Rattle.processor.specs.declared.state.Processor.{Processor}
 use Rattle.std.proofs.ByRecursion.{All-map}
-use Rattle.std.proofs.lemmas.List.{get_or-replicate, get_or-set_other, get_or-set_same}
-use Rattle.std.proofs.lemmas.Bool.{cases_eq, cond_both, eq-eqb, lt-ltb, ltb-true, le-ltb, ne_eqb}
+use Rattle.std.proofs.lemmas.List.{get_or-set_other, get_or-set_same}
+use Rattle.std.proofs.lemmas.Bool.{cases_eq, eq-eqb, lt-ltb, le-ltb, ne_eqb}
 use Rattle.std.proofs.lemmas.Bool.Decides.{nat_tests}
 use Rattle.std.specs.List.{range_with_len}
 use Rattle.std.specs.Option.{option_to_list}
@@ -64,24 +63,12 @@ module _ {A B : Type 0} (w : World A B) where
   pub first_next : (x : Bridge A ℕ) (n s : ℕ)
       → indicator (ltb s (next_number (with_first w x) n)) + indicator (eqb 4 n && ltb s w.first.sequence)
       ≡ indicator (ltb s (next_number w n)) + indicator (eqb 4 n && ltb s x.sequence)
-  first_next x n s = go (cases_eq n 4)
-    where
-      go : (n ≡ 4) ⊎ (n ≡ 4 → ⊥)
-          → indicator (ltb s (next_number (with_first w x) n)) + indicator (eqb 4 n && ltb s w.first.sequence)
-          ≡ indicator (ltb s (next_number w n)) + indicator (eqb 4 n && ltb s x.sequence)
-      go (inl same) = rw same (omega arith)
-      go (inr apart) = rw (ne_eqb n 4 apart, ne_eqb 4 n (λ e. apart (sym e))) refl
+  first_next x n s = grind (arith, nat_tests)
 
   pub second_next : (x : Bridge B ℕ) (n s : ℕ)
       → indicator (ltb s (next_number (with_second w x) n)) + indicator (eqb 5 n && ltb s w.second.sequence)
       ≡ indicator (ltb s (next_number w n)) + indicator (eqb 5 n && ltb s x.sequence)
-  second_next x n s = go (cases_eq n 5)
-    where
-      go : (n ≡ 5) ⊎ (n ≡ 5 → ⊥)
-          → indicator (ltb s (next_number (with_second w x) n)) + indicator (eqb 5 n && ltb s w.second.sequence)
-          ≡ indicator (ltb s (next_number w n)) + indicator (eqb 5 n && ltb s x.sequence)
-      go (inl same) = rw same (omega arith)
-      go (inr apart) = rw (ne_eqb n 5 apart, ne_eqb 5 n (λ e. apart (sym e))) refl
+  second_next x n s = grind (arith, nat_tests)
 
 module _ {A B : Type 0} (ma : Meaning A) (mb : Meaning B) (w : World A B) where
   -- what a delivery takes out of what waits
@@ -180,11 +167,7 @@ module _ {A B : Type 0} (ma : Meaning A) (mb : Meaning B) (w : World A B) where
 module _ {A B : Type 0} (ma : Meaning A) (mb : Meaning B) (k : Making A B) where
   -- at the making nobody has a number
   next_made : (n : ℕ) → next_number (make ma mb k) n ≡ 0
-  next_made n = go (ltb n 4) refl
-    where
-      go : (x : Bool) → ltb n 4 ≡ x → cond x (processor_at (make ma mb k) n).sequence (cond (eqb n 4) 0 (cond (eqb n 5) 0 0)) ≡ 0
-      go true small = ap (λ (s : Processor ℕ). s.sequence) (get_or-replicate 4 n (made k.clock) no_processor (ltb-true n 4 small))
-      go false large = cond_both (eqb n 4) 0 (cond (eqb n 5) 0 0) (λ (x : ℕ). x ≡ 0) (λ _. refl) (λ _. cond_both (eqb n 5) 0 0 (λ (x : ℕ). x ≡ 0) (λ _. refl) (λ _. refl))
+  next_made n = grind (arith, nat_tests)
 
   pub balanced_made : Balanced (make ma mb k)
   balanced_made n s =

@@ -1,6 +1,7 @@
 -- Bounds of one block: where each entry on it stands to the clocks of the home, of those who hold a copy, and of the
 -- acknowledgements on their way. So whoever may operate now has a clock above all that conflicts.
-use Rattle.std.proofs.Common.{◌≡◌, ℕ, ◌+◌, ◌<◌, ◌≤◌, max, Bool, true, false, ◌||◌, eqb, List, [], sym, refl, ◌∙◌, subst, inl, arith, ap}
+use Rattle.std.proofs.lemmas.Bool.Decides.{nat_tests}
+use Rattle.std.proofs.Common.{◌≡◌, ℕ, ◌+◌, ◌<◌, ◌≤◌, max, Bool, true, false, ◌||◌, eqb, List, [], sym, ◌∙◌, subst, arith, ap}
 use Rattle.home.specs.Directories.{round_of}
 use Rattle.home.specs.declared.machine.Home.{Home}
 use Rattle.message.specs.declared.message.Message.{Message}
@@ -8,7 +9,7 @@ use Rattle.ordering.specs.Operations.{is_write}
 use Rattle.processor.specs.declared.line.Line.{Line}
 use Rattle.std.proofs.ByRecursion.{All-weaker}
 use Rattle.std.proofs.lemmas.Bool.{and_left, both_ways, or_parts}
-use Rattle.std.specs.List.{ContainsAt as Has, AllByRecursion as All}
+use Rattle.std.specs.List.{AllByRecursion as All}
 use Rattle.trail.specs.declared.entry.Entry.{Entry}
 use Rattle.coherence.proofs.Blocks.{Block, Posted, hits, peer, pending, pending_is, posted_all, token}
 use Rattle.coherence.proofs.Counting.{count, none_counted}
@@ -56,10 +57,7 @@ none_of ms q none = (
 )
 
 posted_none : (ms : List (Message ℕ)) → Posted ms [] [] ms
-posted_none ms = record { counts = λ f. refl; known = λ m has. inl has; waited = λ m has. absurd (nobody m has) }
-  where
-    nobody : (m : Message ℕ) → Has [] m → ⊥
-    nobody m has = let low = has.1 in omega arith
+posted_none ms = grind (arith, nat_tests)
 
 -- the same messages, as what is posted
 pub posted_same : (ms ns : List (Message ℕ)) → ns ≡ ms → Posted ms [] [] ns

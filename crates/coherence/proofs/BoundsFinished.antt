@@ -1,20 +1,18 @@
 -- The home finishes: its clock goes above all that it knows of, so an operation of its own is above every entry that
 -- conflicts with it.
-use Rattle.std.proofs.Common.{◌≡◌, ℕ, ◌+◌, ◌<◌, ◌≤◌, max, true, false, ◌&&◌, eqb, [], ◌∷◌, ◌++◌, is_some, Some, None, Option, sym, refl, ap, subst, ⊎_elim, arith}
+use Rattle.std.proofs.Common.{◌≡◌, ℕ, ◌+◌, ◌<◌, ◌≤◌, true, false, ◌&&◌, eqb, [], ◌∷◌, ◌++◌, Some, None, Option, sym, refl, ap, subst, ⊎_elim, arith}
 use Rattle.home.specs.Directories.{round_of}
 use Rattle.home.specs.Reactions.{clock_after, finished, reply}
-use Rattle.home.specs.Requests.{operation_for, asks_down}
+use Rattle.home.specs.Requests.{asks_down}
 use Rattle.home.specs.declared.machine.Home.{Home}
 use Rattle.message.specs.Kinds.{kind_number, same_kind}
 use Rattle.message.specs.declared.kind.Kind.{Kind}
 use Rattle.message.specs.declared.kind.Kind.TheVariants as kind
-use Rattle.ordering.specs.Clocks.{passed, counted}
 use Rattle.ordering.specs.Operations.{is_write}
-use Rattle.ordering.specs.declared.clock.Clock.{Clock}
 use Rattle.ordering.specs.declared.stamp.Stamp.{Stamp}
 use Rattle.std.proofs.ByRecursion.{All-push, All-weaker}
 use Rattle.std.proofs.lemmas.List.{append-nil}
-use Rattle.std.proofs.lemmas.Bool.{both_ways, cond_both, or_cases, and_right}
+use Rattle.std.proofs.lemmas.Bool.{both_ways, or_cases, and_right}
 use Rattle.std.proofs.lemmas.Bool.Decides.{nat_tests}
 use Rattle.std.specs.Option.{option_to_list}
 use Rattle.std.specs.List.{AllByRecursion as All}
@@ -33,9 +31,7 @@ use Rattle.coherence.proofs.TokensKept.{same_line}
 
 -- the clock goes above what the home had and what it heard
 above : (h : Home ℕ) → bound h < (clock_after h.clock (round_of h.directory)).global
-above h =
-    cond_both (is_some (operation_for (round_of h.directory).request.kind)) (counted (passed h.clock (max (round_of h.directory).latest (round_of h.directory).request.clock))) (passed h.clock (round_of h.directory).latest)
-    (λ (c : Clock ℕ). bound h < c.global) (λ _. omega arith) (λ _. omega arith)
+above h = grind (arith, nat_tests)
 
 -- only Wblk writes
 writes_for : (h : Home ℕ) (b : ℕ) (e : Entry) → (finished h b).entry ≡ Some e → is_write e.operation ≡ true → same_kind (round_of h.directory).request.kind kind.Wblk ≡ true

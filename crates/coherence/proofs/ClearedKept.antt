@@ -38,13 +38,7 @@ channel_carries : (m : Message ℕ) → is_channel m.kind ≡ true → (carries 
 channel_carries m channel = (grind (arith, nat_tests), grind (arith, nat_tests))
 
 block_fits : (n : ℕ) (m : Message ℕ) → is_block (carried_access m).operation ≡ true → (carried_access m).place < 16 → device_issues n (carried_access m) ≡ true
-block_fits n m block small = go (carried_access m) block small space
-  where
-    space : (carried_access m).space ≡ 0
-    space = grind (arith, nat_tests)
-
-    go : (a : Access) → is_block a.operation ≡ true → a.place < 16 → a.space ≡ 0 → device_issues n a ≡ true
-    go a block small space = grind (arith, nat_tests)
+block_fits n m block small = grind (arith, nat_tests)
 
 module _ {A B : Type 0} (ma : Meaning A) (mb : Meaning B) where
   still_pairs : (c : Call) (w : World A B) → Pairs Follows w.messages → Pairs Follows (waiting ma mb c w)

@@ -1,6 +1,6 @@
 -- Over every run, in trail order: stamps rise between conflicting entries, and every read has the current words. So every read
 -- is current by stamps.
-use Rattle.std.proofs.Common.{◌≡◌, ℕ, ◌+◌, ◌<◌, Bool, true, false, cond, ◌||◌, eqb, ltb, ◌⊎◌, List, ◌++◌, get_or, Some, filter, Option, sym, refl, ap, ◌∙◌, subst, inl, inr, ⊎_elim, arith}
+use Rattle.std.proofs.Common.{◌≡◌, ℕ, ◌+◌, ◌<◌, true, false, ◌||◌, eqb, ◌⊎◌, List, ◌++◌, get_or, Some, filter, Option, sym, ap, ◌∙◌, subst, inl, inr, ⊎_elim, arith}
 use Rattle.bridge.proofs.Clocks as bridge
 use Rattle.bridge.proofs.Writing as bridge_writing
 use Rattle.bridge.specs.Inputs as bridge_input
@@ -9,14 +9,12 @@ use Rattle.device.specs.Meaning.{Meaning}
 use Rattle.home.specs.Reactions.{received}
 use Rattle.message.specs.declared.figures.Figures.{Figures}
 use Rattle.message.specs.declared.reaction.Reaction.{Reaction}
-use Rattle.ordering.specs.Operations.{is, is_block, is_read, is_write}
+use Rattle.ordering.specs.Operations.{is, is_read, is_write}
 use Rattle.ordering.specs.Stamps.{below}
 use Rattle.ordering.specs.Words.{one_word}
-use Rattle.ordering.specs.declared.operation.Operation.{Operation}
 use Rattle.ordering.specs.declared.operation.Operation.TheVariants.{LdIo, StIo}
-use Rattle.ordering.specs.declared.operation.Words.{Words}
 use Rattle.std.proofs.ByRecursion.{all-has}
-use Rattle.std.proofs.lemmas.Bool.{and_parts, cases_eq, eqb-true, ltb-true}
+use Rattle.std.proofs.lemmas.Bool.{and_parts, cases_eq, eqb-true}
 use Rattle.std.proofs.lemmas.Bool.Decides.{nat_tests}
 use Rattle.std.specs.Option.{option_to_list}
 use Rattle.std.specs.List.{ContainsAt as Has, AllByRecursion as All}
@@ -126,19 +124,7 @@ module _ {A B : Type 0} (ma : Meaning A) (mb : Meaning B) (la : Lawful ma) (lb :
 -- what an LDio read of a device's words is what stands in the device's space
 device_reads : (now : Address → ℕ) (d : ℕ) (ws : List ℕ) (x : Entry) → x.space ≡ 1 + d → (is LdIo x.operation || is StIo x.operation) ≡ true
     → (is LdIo x.operation ≡ true → x.values ≡ one_word (get_or ws x.place 0)) → now (address (1 + d) x.place) ≡ get_or ws x.place 0 → Reads now x
-device_reads now d ws x space io loaded stands read n has =
-    let load : is LdIo x.operation ≡ true = only_loads x.operation io read in
-    let word : is_block x.operation ≡ false = no_block x.operation io in
-    let low : n < 1 = ltb-true n 1 (subst (λ (t : Bool). ltb n (cond t 4 1) ≡ true) word has) in
-    let first : n ≡ 0 = omega arith in
-    let at : address_of x n ≡ address (1 + d) x.place = rw (word, space) refl in
-    ap (λ (i : ℕ). get_or x.values.at i 0) first ∙ ap (λ (v : Words). get_or v.at 0 0) (loaded load) ∙ sym stands ∙ ap now (sym at)
-  where
-    only_loads : (o : Operation) → (is LdIo o || is StIo o) ≡ true → is_read o ≡ true → is LdIo o ≡ true
-    only_loads o a b = grind (arith, nat_tests)
-
-    no_block : (o : Operation) → (is LdIo o || is StIo o) ≡ true → is_block o ≡ false
-    no_block o a = grind (arith, nat_tests)
+device_reads now d ws x space io loaded stands read n has = grind (arith, nat_tests)
 
 -- a read that is not of a device's word is on memory
 memory_reads : (x : Entry) → Spaced x → (is LdIo x.operation || is StIo x.operation) ≡ false → is_read x.operation ≡ true → x.space ≡ 0

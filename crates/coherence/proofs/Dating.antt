@@ -1,6 +1,6 @@
 -- The trail lies in the past of the clocks, so no two entries have one stamp.
-use Rattle.std.proofs.Common.{◌≡◌, ℕ, ◌≤◌, ◌⊎◌, [], ◌++◌, is_some, Some, None, Option, sym, ap, ◌∙◌, subst, inl, inr, arith}
-use Rattle.ordering.specs.Stamps.{stamped}
+use Rattle.std.proofs.lemmas.Bool.Decides.{nat_tests}
+use Rattle.std.proofs.Common.{◌≡◌, ℕ, ◌≤◌, ◌⊎◌, [], ◌++◌, Some, None, Option, sym, subst, inl, inr, arith}
 use Rattle.ordering.specs.declared.clock.Clock.{Clock}
 use Rattle.ordering.specs.declared.stamp.Stamp.{Stamp}
 use Rattle.std.proofs.ByRecursion.{All-weaker, All-append, All-push}
@@ -24,11 +24,6 @@ past_onward c d s past (inl same) = subst (λ (k : Clock ℕ). Past k s) (sym sa
 past_onward c d s past (inr (inl up)) = (omega (arith, past.0), λ h. absurd (omega (arith, past.0)))
 past_onward c d s past (inr (inr up)) = (omega (arith, past.0, up.0), λ h. let l = past.1 (omega (arith, up.0)) in omega (arith, up.1))
 
--- a later clock's stamp is none of them
-past_differs : (c d : Clock ℕ) (s : Stamp) → Past c s → Earlier c d → s.global ≡ d.global → s.local ≡ d.local → ⊥
-past_differs c d s past (inl up) g l = omega (arith, past.0)
-past_differs c d s past (inr up) g l = let h = past.1 (omega (arith, up.0)) in omega (arith, up.1)
-
 module _ {A B : Type 0} where
   abbrev pub Dated : World A B → Entry → Type 0
   Dated w x = Past (clock_at w x.stamp.node) x.stamp
@@ -44,19 +39,10 @@ module _ {A B : Type 0} where
         go (inr apart) = subst (λ (k : Clock ℕ). Past k x.stamp) (sym (t.others x.stamp.node apart)) past
 
     new_dated : (x : Entry) → e.entry ≡ Some x → Dated e.next x
-    new_dated x is =
-        let s = t.stamps x is in
-        let c = clock_at e.next e.node in
-        let P : Stamp → Type 0 = λ y. Past (clock_at e.next y.node) y in
-        subst P (sym s) (omega arith, λ h. omega arith)
+    new_dated x is = grind (arith, nat_tests)
 
     new_differs : (x : Entry) → e.entry ≡ Some x → (f : Entry) → Dated w f → Differ f x
-    new_differs x is f past same =
-        let s : f.stamp ≡ stamped (clock_at e.next e.node) e.node = same ∙ t.stamps x is in
-        let at : f.stamp.node ≡ e.node = ap (λ (y : Stamp). y.node) s in
-        let old : Past (clock_at w e.node) f.stamp = subst (λ (n : ℕ). Past (clock_at w n) f.stamp) at past in
-        past_differs (clock_at w e.node) (clock_at e.next e.node) f.stamp old (t.rises (ap is_some is))
-        (ap (λ (y : Stamp). y.global) s) (ap (λ (y : Stamp). y.local) s)
+    new_differs x is f past same = grind (arith, nat_tests)
 
     pub dates : (o : Option Entry) → e.entry ≡ o → All (Dated w) w.trail → All (Dated e.next) (w.trail ++ option_to_list o)
     dates None is all = All-append (Dated e.next) w.trail [] (All-weaker (Dated w) (Dated e.next) still_dated w.trail all) tt

@@ -1,6 +1,6 @@
 -- The entry that an effect adds: on memory it is above all that conflicts with it and has the current words, and so it is in a
 -- device's space; so in trail order stamps rise between conflicting entries, and reads are current.
-use Rattle.std.proofs.Common.{◌≡◌, ℕ, ◌/◌, ◌<◌, Bool, true, false, cond, eqb, Some, None, sym, refl, ap, ◌∙◌, subst, arith}
+use Rattle.std.proofs.Common.{◌≡◌, ℕ, ◌/◌, ◌<◌, true, false, eqb, Some, None, sym, refl, ap, ◌∙◌, subst, arith}
 use Rattle.bridge.proofs.Clocks as bridge
 use Rattle.bridge.specs.Inputs as bridge_input
 use Rattle.device.specs.Meaning.{Meaning}
@@ -12,7 +12,7 @@ use Rattle.ordering.specs.Stamps.{below}
 use Rattle.ordering.specs.declared.stamp.Stamp.{Stamp}
 use Rattle.processor.specs.Inputs as processor
 use Rattle.processor.specs.Laws.{EachReaction}
-use Rattle.std.proofs.lemmas.Bool.{and_from, and_parts, eq-eqb, eqb-true}
+use Rattle.std.proofs.lemmas.Bool.{and_from, eq-eqb}
 use Rattle.std.proofs.lemmas.Bool.Decides.{nat_tests}
 use Rattle.trail.specs.Addresses.{covers}
 use Rattle.trail.specs.declared.address.Address.{Address}
@@ -32,18 +32,7 @@ below_by_global s t up = grind (arith, nat_tests)
 
 -- the block of an address that an entry on the block covers
 pub covered_block : (b : ℕ) (e : Entry) (a : Address) → on b e ≡ true → covers e a ≡ true → (a.space ≡ 0) × (a.word / 4 ≡ b)
-covered_block b e a here cover =
-    (sym (eqb-true e.space a.space c.0) ∙ eqb-true e.space 0 h.0, go (is_block e.operation) (eqb-true _ e.place c.1) (eqb-true _ b h.1))
-  where
-    c : (eqb e.space a.space ≡ true) × (eqb (cond (is_block e.operation) (a.word / 4) a.word) e.place ≡ true)
-    c = and_parts (eqb e.space a.space) _ cover
-
-    h : (eqb e.space 0 ≡ true) × (eqb (cond (is_block e.operation) e.place (e.place / 4)) b ≡ true)
-    h = and_parts (eqb e.space 0) _ here
-
-    go : (t : Bool) → cond t (a.word / 4) a.word ≡ e.place → cond t e.place (e.place / 4) ≡ b → a.word / 4 ≡ b
-    go true word place = word ∙ place
-    go false word place = ap (λ (n : ℕ). n / 4) word ∙ place
+covered_block b e a here cover = grind (arith, nat_tests)
 
 -- A processor's own operation is on the word that the call names.
 abbrev Small : processor.Input → Type 0

@@ -80,19 +80,7 @@ module _ {A B : Type 0} (w : World A B) where
     outs_of : (Passes : ℕ → Type 0) → ((k : ℕ) → out r.next.requests k ≡ None → (out b.requests k ≡ None) ⊎ Passes k)
         → ((k : ℕ) → Passes k → (now w (home_node k) < r.next.clock.global) × (r.entry ≡ None))
         → (j k : ℕ) → j < 2 → out (requests_at e.next j) k ≡ None → (out (requests_at w j) k ≡ None) ⊎ ((now w (home_node k) < now e.next (device_node j)) × (e.entry ≡ None))
-    outs_of Passes rests passes j k low none = go (cases_eq j d)
-      where
-        go : (j ≡ d) ⊎ (j ≡ d → ⊥) → (out (requests_at w j) k ≡ None) ⊎ ((now w (home_node k) < now e.next (device_node j)) × (e.entry ≡ None))
-        go (inl same) =
-            ⊎_elim
-            (λ free. inl (subst (λ (n : ℕ). out (requests_at w n) k ≡ None) (sym same) (subst (λ (x : Requests). out x k ≡ None) (sym shows.requests) free)))
-            (λ pass.
-            inr (
-              subst (λ (n : ℕ). now w (home_node k) < now e.next (device_node n)) (sym same) (subst (λ (n : ℕ). now w (home_node k) < n) (sym shows.clock_after) (passes k pass).0),
-              shows.does ∙ (passes k pass).1,
-            ))
-            (rests k (subst (λ (x : Requests). out x k ≡ None) shows.requests_after (subst (λ (n : ℕ). out (requests_at e.next n) k ≡ None) same none)))
-        go (inr apart) = inl (subst (λ (x : Requests). out x k ≡ None) (shows.others j low apart) none)
+    outs_of Passes rests passes j k low none = grind (arith, nat_tests)
 
     module _ (starts : (y : Message ℕ) → posted r.sent ≡ Some y → (n s : ℕ) → carries n s y ≡ true → Sent w n s y)
         (does : (x : Entry) → r.entry ≡ Some x → Does w x)

@@ -17,7 +17,7 @@ use Rattle.message.specs.declared.message.Message.{Message}
 use Rattle.message.specs.declared.reaction.Reaction.{Reaction}
 use Rattle.ordering.specs.Operations.{is_block}
 use Rattle.ordering.specs.declared.operation.Words.{Words}
-use Rattle.std.proofs.lemmas.Bool.{cond_both, and_parts, and_from, both_ways, eqb-true, eq-eqb}
+use Rattle.std.proofs.lemmas.Bool.{cond_both, and_parts, and_from, both_ways, eqb-true}
 use Rattle.std.proofs.lemmas.Bool.Decides.{nat_tests}
 use Rattle.std.specs.List.{AllByRecursion as All}
 use Rattle.trail.specs.declared.entry.Entry.{Entry}
@@ -118,9 +118,7 @@ module _ (b : ℕ) (h : Home ℕ) (m : Message ℕ) (at : m.place ≡ b) where
 
   served : (e : Entry) → gathers h ≡ true → is_block_request (round_of h.directory).request.kind ≡ true → e.party ≡ (round_of h.directory).request.requester → e.sequence ≡ (round_of h.directory).request.sequence
       → serves e.party e.sequence h ≡ true
-  served e busy block party number =
-      and_from (gathers h) _ busy (and_from (is_block_request (round_of h.directory).request.kind) _ block
-      (and_from (eqb (round_of h.directory).request.requester e.party) (eqb (round_of h.directory).request.sequence e.sequence) (eq-eqb _ _ (sym party)) (eq-eqb _ _ (sym number))))
+  served e busy block party number = grind (arith, nat_tests)
 
   hears : awaits h.directory m.sender ≡ true → HomeErrands b h m (after_hearing heard b)
   hears awaited =

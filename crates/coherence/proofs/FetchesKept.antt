@@ -1,6 +1,6 @@
 -- Every call keeps what lets the next operation start: below which clock a processor's LDios and a device's block operations
 -- are done, once nothing of them is under way.
-use Rattle.std.proofs.Common.{◌≡◌, ℕ, ◌+◌, ◌<◌, ◌≤◌, true, false, cond, ◌&&◌, ◌||◌, eqb, ◌⊎◌, List, Some, None, sym, refl, ap, ◌∙◌, subst, inl, inr, arith}
+use Rattle.std.proofs.Common.{◌≡◌, ℕ, ◌+◌, ◌<◌, ◌≤◌, true, false, ◌&&◌, eqb, ◌⊎◌, List, Some, None, sym, refl, ap, ◌∙◌, subst, inl, inr, arith}
 use Rattle.device.specs.Meaning.{Meaning}
 use Rattle.message.specs.Kinds.{same_kind}
 use Rattle.message.specs.Messages.{no_message}
@@ -13,7 +13,7 @@ use Rattle.message.specs.declared.message.Message.{Message}
 use Rattle.ordering.specs.Operations.{is, is_block}
 use Rattle.ordering.specs.Orders.{is_io}
 use Rattle.ordering.specs.declared.operation.Operation.{Operation}
-use Rattle.ordering.specs.declared.operation.Operation.TheVariants.{LdIo, StIo, Int}
+use Rattle.ordering.specs.declared.operation.Operation.TheVariants.{LdIo}
 use Rattle.ordering.specs.declared.order.Access.{Access}
 use Rattle.processor.specs.Slots.{slot_at, is_awaited}
 use Rattle.std.proofs.lemmas.Bool.{both_ways, and_parts, eqb-true}
@@ -55,10 +55,7 @@ pub record Fetch (p d : ℕ) (y : Entry) : Type 0 where
   pub space : y.space ≡ 1 + d
 
 pub is_fetch : (p d : ℕ) (y : Entry) → fetches p d y ≡ true → Fetch p d y
-is_fetch p d y h =
-    let a = and_parts (eqb y.party p) _ h in
-    let b = and_parts (is LdIo y.operation) (eqb y.space (1 + d)) a.1 in
-    record { by = eqb-true y.party p a.0; ldio = b.0; space = eqb-true y.space (1 + d) b.1 }
+is_fetch p d y h = grind (arith, nat_tests)
 
 pub ldio_is : (o : Operation) → is LdIo o ≡ true → (is_io o ≡ true) × (is_memory o ≡ false) × (is_block o ≡ false)
 ldio_is o h = (grind (arith, nat_tests), grind (arith, nat_tests), grind (arith, nat_tests))
@@ -70,11 +67,7 @@ block_is : (o : Operation) → is_block o ≡ true → (is_memory o ≡ false) �
 block_is o h = (grind (arith, nat_tests), grind (arith, nat_tests))
 
 block_seat : (y : Entry) → is_block y.operation ≡ true → seat y ≡ 16 + y.place
-block_seat y block = go y.operation block
-  where
-    go : (o : Operation) → is_block o ≡ true
-        → cond (is LdIo o || is StIo o) (3 + y.space) (cond (is Int o) y.place (cond (is_block o) (16 + y.place) y.party)) ≡ 16 + y.place
-    go o block = grind (arith, nat_tests)
+block_seat y block = grind (arith, nat_tests)
 
 module _ {A B : Type 0} (ma : Meaning A) (mb : Meaning B) (f : Figures) (h : History A B) (known : Known ma mb f h) where
   -- a processor's LDio that is done now was asked for by a Rio

@@ -16,7 +16,7 @@ use Rattle.processor.specs.declared.state.Processor.{Processor}
 use Rattle.std.proofs.lemmas.Bool.{and_parts, eqb-true, lt-ltb, both_ways}
 use Rattle.std.proofs.lemmas.Bool.Decides.{nat_tests}
 use Rattle.std.proofs.lemmas.Option.{same_Some}
-use Rattle.coherence.proofs.Arising.{never, came}
+use Rattle.coherence.proofs.Arising.{came}
 use Rattle.coherence.proofs.Meeting.{Asks, Meets, at_call, at_first_wish, at_second_wish, to_processor, to_home, to_first, to_second}
 use Rattle.coherence.proofs.Orderly.{processor_issues, device_issues, is_fitting}
 use Rattle.coherence.specs.Histories.{Issued, issues, own, access, is_ldio, wish_access, wished}
@@ -45,10 +45,7 @@ module _ {A B : Type 0} (ma : Meaning A) (mb : Meaning B) (w : World A B) where
 
   -- nothing is issued
   nothing : (c : Call) → issues ma mb c w ≡ None → IssuesWell c
-  nothing c none = record { fits = λ x new. never (clash x new); free = λ x new p d small two ldio. never (clash x new) }
-    where
-      clash : (x : Issued) → issues ma mb c w ≡ Some x → ◌≡◌ {A = ℕ} 0 1
-      clash x new = let both : None ≡ Some x = sym none ∙ new in cc
+  nothing c none = grind (arith, nat_tests)
 
   -- a processor's own operation
   fits_own : (p : ℕ) → p < 4 → (a : Access) → processor_issues a ≡ true → is_fitting (own ma mb w p a) ≡ true

@@ -1,42 +1,39 @@
 -- What a bridge sends is well formed, whatever its device wishes.
-use Rattle.std.proofs.Common.{◌≡◌, ℕ, ◌+◌, ◌<◌, ◌≤◌, true, false, ◌&&◌, eqb, ltb, leb, IfSome, Some, None, Ok, Err, Option, Result, sym, refl, subst, arith}
-use Rattle.bridge.proofs.Writing.{plans_are_kept}
-use Rattle.bridge.specs.Acts.{Decision, any_out, numbering, own, wish_message, interrupt, request, act_on, act_plan}
+use Rattle.std.proofs.lemmas.Bool.Decides.{nat_tests}
+use Rattle.std.proofs.Common.{◌≡◌, ℕ, ◌+◌, ◌<◌, ◌≤◌, true, false, ◌&&◌, ltb, leb, IfSome, Some, None, Ok, Err, Option, Result, sym, refl, subst, arith}
+use Rattle.bridge.specs.Acts.{Decision, own, wish_message, interrupt, request, act_on, act_plan}
 use Rattle.bridge.specs.Acts as acts
-use Rattle.bridge.specs.Deeds.{word_at, value_of, deed_done, performed}
+use Rattle.bridge.specs.Deeds.{performed}
 use Rattle.bridge.specs.Inputs.{Input, Act, Receive, reaction}
 use Rattle.bridge.specs.Plans.{plan_within}
 use Rattle.bridge.specs.Receipts.{asked, asked_access, replied, again, refused, receive_kind}
-use Rattle.bridge.specs.States.{at_numbers}
 use Rattle.bridge.specs.declared.fault.DeviceFault.{DeviceFault}
-use Rattle.bridge.specs.declared.fault.DeviceFault.TheVariants.{MustWait}
 use Rattle.bridge.specs.declared.plan.Deed.{Deed}
 use Rattle.bridge.specs.declared.plan.Deed.TheVariants.{Load, Store, Interrupt, Request, Read, Write, Land, Finish, Resend}
 use Rattle.bridge.specs.declared.plan.Plan.{Plan}
 use Rattle.bridge.specs.declared.state.Bridge.{Bridge}
 use Rattle.device.specs.Meaning.{Meaning}
 use Rattle.device.specs.declared.meaning.Wish.{Wish}
-use Rattle.message.specs.Checks.{has_processor, word_count, all_are_zero}
+use Rattle.message.specs.Checks.{has_processor, word_count}
 use Rattle.message.specs.Forms.{row, returned}
 use Rattle.message.specs.Kinds.{is_request}
 use Rattle.message.specs.Nodes.{home_node, device_node, is_device}
 use Rattle.message.specs.Reactions.{sent}
-use Rattle.message.specs.Requests.{out, is_out}
+use Rattle.message.specs.Requests.{is_out}
 use Rattle.message.specs.declared.figures.Figures.{Figures}
 use Rattle.message.specs.declared.kind.Kind.{Kind}
 use Rattle.message.specs.declared.kind.Kind.TheVariants as kind
 use Rattle.message.specs.declared.message.Message.{Message}
 use Rattle.message.specs.declared.reaction.Reaction.{Reaction}
 use Rattle.ordering.specs.Clocks.{number_end, is_within}
-use Rattle.ordering.specs.Words.{one_word, no_words, first_word}
-use Rattle.ordering.specs.declared.clock.Clock.{Clock}
+use Rattle.ordering.specs.Words.{no_words, first_word}
 use Rattle.ordering.specs.declared.operation.Operation.{Operation}
 use Rattle.ordering.specs.declared.operation.Operation.TheVariants as operation
 use Rattle.ordering.specs.declared.operation.Words.{Words}
-use Rattle.std.proofs.lemmas.Bool.{and_parts, and_from, and_left, cond_both, both_ways, or_right, ltb-true, lt-ltb, eq-eqb}
+use Rattle.std.proofs.lemmas.Bool.{and_parts, cond_both}
 use Rattle.std.specs.List.{AllByRecursion as All}
 use Rattle.coherence.proofs.Arising.{never}
-use Rattle.coherence.proofs.FormsBuilt.{Well, Fits, fits_by, as_row, as_back, home_end, global_within, number_below, taken_well, from_home}
+use Rattle.coherence.proofs.FormsBuilt.{Well, Fits, fits_by, as_row, as_back, home_end, global_within, from_home}
 use Rattle.coherence.specs.Steps.{bridge_within}
 
 -- What may come to the bridge of device d: a wish on this board, and well-formed messages to it.
@@ -71,33 +68,14 @@ module _ {S : Type 0} (m : Meaning S) (f : Figures) (d : ℕ) (device : is_devic
   clock_well : (b : Bridge S ℕ) (q : ℕ) (a : Deed) → plan_within (record { clock = b.clock; sequence = q; deed = a }) ≡ true → leb b.clock.global number_end ≡ true
   clock_well b q a within = global_within b.clock (and_parts (is_within b.clock) (leb q (number_end + 1)) within).0
 
-  numbers_well : (b : Bridge S ℕ) (a : Deed) → plan_within (numbering b b.clock a) ≡ true → (leb b.clock.global number_end && leb b.sequence number_end) ≡ true
-  numbers_well b a within =
-      and_from (leb b.clock.global number_end) (leb b.sequence number_end) (clock_well b (b.sequence + 1) a within)
-      (number_below b.sequence (and_parts (is_within b.clock) (leb (b.sequence + 1) (number_end + 1)) within).1)
-
   -- wishes
   interrupt_well : (b : Bridge S ℕ) (ps p v : ℕ) → ps ≡ f.processors → ps ≤ 4 → DecidedWell f d (interrupt d b ps p v)
-  interrupt_well b ps p v is few =
-      cond_both (ltb p ps) _ _ (DecidedWell f d)
-      (λ on. cond_both (any_out b.requests) _ _ (DecidedWell f d) (λ _. tt)
-      (λ _ within.
-      let lt = ltb-true p ps on in
-      let own : has_processor f p ≡ true = and_from (ltb p 4) (ltb p f.processors) (lt-ltb p 4 (omega arith)) (subst (λ (n : ℕ). ltb p n ≡ true) is on) in
-      let x = wish_message kind.Int d b p p (one_word v) in
-      fits_by f (row kind.Int) x (record { sender = device; receiver = and_from (has_processor f p) (eqb p p) own (eq-eqb p p refl); words = refl; numbers = numbers_well b (Interrupt x) within })))
-      (λ _. tt)
+  interrupt_well b ps p v is few = grind (arith, nat_tests)
 
   request_well : (b : Bridge S ℕ) (r : Kind) (k : ℕ) (ws : Words)
       → (k < 16 → (leb b.clock.global number_end && leb b.sequence number_end) ≡ true → Well f (wish_message r d b (home_node k) k ws))
       → DecidedWell f d (request d b r k ws)
-  request_well b r k ws well =
-      cond_both (ltb k 16) _ _ (DecidedWell f d) (λ small. go (ltb-true k 16 small) (out b.requests k)) (λ _. tt)
-    where
-      go : k < 16 → (o : Option Kind)
-          → DecidedWell f d (elim o [ Some q ↦ Err (MustWait d) | None ↦ Ok (numbering b b.clock (Request (wish_message r d b (home_node k) k ws))) ])
-      go small (Some q) = tt
-      go small None = λ within. well small (numbers_well b (Request (wish_message r d b (home_node k) k ws)) within)
+  request_well b r k ws well = grind (arith, nat_tests)
 
   own_well : (b : Bridge S ℕ) (w : ℕ) (a : Deed) → DeedWell f d a → DecidedWell f d (own m d b w a)
   own_well b w a well = cond_both (ltb w (acts.word_count m b)) _ _ (DecidedWell f d) (λ _ _. well) (λ _. tt)
@@ -122,35 +100,7 @@ module _ {S : Type 0} (m : Meaning S) (f : Figures) (d : ℕ) (device : is_devic
   -- messages
   resent_well : (b : Bridge S ℕ) (x : Message ℕ) (k : Kind) → is_request k ≡ true → Fits f (returned (row k)) x → x.receiver ≡ device_node d → leb b.clock.global number_end ≡ true
       → Well f (again k d b x)
-  resent_well b x k asks fit to le = go k asks fit
-    where
-      no_processor : has_processor f x.receiver ≡ true → ⊥
-      no_processor h = both_ways (has_processor f x.receiver) (and_left (ltb x.receiver 4) _ (subst (λ (n : ℕ). ltb n 4 ≡ false) (sym to) far)) h
-
-      numbers : (leb x.clock number_end && leb x.sequence number_end) ≡ true → (leb b.clock.global number_end && leb x.sequence number_end) ≡ true
-      numbers h = and_from (leb b.clock.global number_end) (leb x.sequence number_end) le (and_parts (leb x.clock number_end) (leb x.sequence number_end) h).1
-
-      go : (k : Kind) → is_request k ≡ true → Fits f (returned (row k)) x → Well f (again k d b x)
-      go kind.Gets a fit = absurd (no_processor fit.receiver)
-      go kind.Getx a fit = absurd (no_processor fit.receiver)
-      go kind.Upg a fit = absurd (no_processor fit.receiver)
-      go kind.Wb a fit = absurd (no_processor fit.receiver)
-      go kind.Rblk a fit = fits_by f (row kind.Rblk) (again kind.Rblk d b x) (record { sender = device; receiver = fit.sender; words = (and_parts _ (all_are_zero x.words) fit.words).1; numbers = numbers fit.numbers })
-      go kind.Wblk a fit = fits_by f (row kind.Wblk) (again kind.Wblk d b x) (record { sender = device; receiver = fit.sender; words = refl; numbers = numbers fit.numbers })
-      go kind.Rio a fit = absurd (both_ways false refl a)
-      go kind.Wio a fit = absurd (both_ways false refl a)
-      go kind.Int a fit = absurd (both_ways false refl a)
-      go kind.Inv a fit = absurd (both_ways false refl a)
-      go kind.Down a fit = absurd (both_ways false refl a)
-      go kind.Ack a fit = absurd (both_ways false refl a)
-      go kind.SData a fit = absurd (both_ways false refl a)
-      go kind.XData a fit = absurd (both_ways false refl a)
-      go kind.Grant a fit = absurd (both_ways false refl a)
-      go kind.Done a fit = absurd (both_ways false refl a)
-      go kind.Words a fit = absurd (both_ways false refl a)
-      go kind.Value a fit = absurd (both_ways false refl a)
-      go kind.Nack a fit = absurd (both_ways false refl a)
-      go kind.Taken a fit = absurd (both_ways false refl a)
+  resent_well b x k asks fit to le = grind (arith, nat_tests)
 
   module _ (b : Bridge S ℕ) (x : Message ℕ) (form : Well f x) (to : x.receiver ≡ device_node d) where
     asked_well : (a : Deed) → DeedWell f d a → KnownWell f d (asked m b x a)
@@ -192,26 +142,8 @@ module _ {S : Type 0} (m : Meaning S) (f : Figures) (d : ℕ) (device : is_devic
     by_kind kind.Value is = tt
     by_kind kind.Taken is = tt
 
-  -- what is performed
-  deed_sends : (a : Deed) (b : Bridge S ℕ) → leb b.clock.global number_end ≡ true → DeedWell f d a → All (Well f) (sent (deed_done a m d b).sent)
-  deed_sends (Load a) b le well = tt
-  deed_sends (Store a v) b le well = tt
-  deed_sends (Interrupt x) b le well = (well, tt)
-  deed_sends (Request x) b le well = (well, tt)
-  deed_sends (Read a) b le well =
-      (fits_by f (row kind.Value) (value_of d b.clock a (word_at m b a.place)) (record { sender = well.0; receiver = well.1; words = refl; numbers = and_from (leb b.clock.global number_end) true le refl }), tt)
-  deed_sends (Write a v) b le well = tt
-  deed_sends (Land h k ws) b le well = (taken_well f (device_node d) h k (or_right (has_processor f (device_node d)) _ device) well.0 well.1, tt)
-  deed_sends (Finish h k) b le well = (taken_well f (device_node d) h k (or_right (has_processor f (device_node d)) _ device) well.0 well.1, tt)
-  deed_sends (Resend x) b le well = (well, tt)
-
   performed_sends : (b : Bridge S ℕ) (p : Plan ℕ) → PlanWell f d p → bridge_within (performed m d b p).next ≡ true → All (Well f) (sent (performed m d b p).sent)
-  performed_sends b p well within =
-      let k = plans_are_kept m in
-      let c : (is_within p.clock && leb (performed m d b p).next.sequence (number_end + 1)) ≡ true =
-      subst (λ (x : Clock ℕ). (is_within x && leb (performed m d b p).next.sequence (number_end + 1)) ≡ true) (k.clock b d p) within in
-      let q : plan_within p ≡ true = subst (λ (x : ℕ). (is_within p.clock && leb x (number_end + 1)) ≡ true) (k.sequence b d p) c in
-      deed_sends p.deed (at_numbers p.clock p.sequence b) (global_within p.clock (and_parts (is_within p.clock) _ q).0) (well q)
+  performed_sends b p well within = grind (arith, nat_tests)
 
   abbrev done : Bridge S ℕ → Decision → Result (Reaction (Bridge S ℕ)) DeviceFault
   done b x = elim x [ Ok p ↦ Ok (performed m d b p) | Err e ↦ Err e ]

@@ -1,5 +1,5 @@
 -- Well-formed messages taken apart and put together: by the form of the kind, part by part.
-use Rattle.std.proofs.Common.{◌≡◌, ℕ, ◌+◌, ◌<◌, Bool, true, false, cond, ◌&&◌, ◌||◌, eqb, ltb, leb, Some, None, Option, sym, refl, ap, ◌∙◌, subst, arith}
+use Rattle.std.proofs.Common.{◌≡◌, ℕ, ◌<◌, Bool, true, false, cond, ◌&&◌, ◌||◌, eqb, ltb, leb, Some, None, Option, sym, refl, ap, ◌∙◌, subst, arith}
 use Rattle.message.proofs.Soundness.{well_formed_are_sound}
 use Rattle.message.specs.Checks.{has_processor, end_fits, words_fit, numbers_fit, fits, well_formed}
 use Rattle.message.specs.Forms.{form_of, row, returned}
@@ -15,7 +15,7 @@ use Rattle.message.specs.declared.kind.Kind.TheVariants as kind
 use Rattle.message.specs.declared.message.Message.{Message}
 use Rattle.ordering.specs.Clocks.{number_end, is_within}
 use Rattle.ordering.specs.declared.clock.Clock.{Clock}
-use Rattle.std.proofs.lemmas.Bool.{and_parts, and_from, both_ways, lt-ltb, eq-eqb, leb-true, le-leb, or_right}
+use Rattle.std.proofs.lemmas.Bool.{and_parts, and_from, both_ways, lt-ltb, eq-eqb, or_right}
 use Rattle.std.proofs.lemmas.Bool.Decides.{nat_tests}
 
 abbrev pub Well : Figures → Message ℕ → Type 0
@@ -82,9 +82,6 @@ home_end_at f h b is small = subst (λ (n : ℕ). end_fits f Home n b ≡ true) 
 -- clocks and sequence numbers within their end
 pub global_within : (c : Clock ℕ) → is_within c ≡ true → leb c.global number_end ≡ true
 global_within c h = (and_parts (leb c.global number_end) (leb c.local number_end) h).0
-
-pub number_below : (s : ℕ) → leb (s + 1) (number_end + 1) ≡ true → leb s number_end ≡ true
-number_below s h = let le = leb-true (s + 1) (number_end + 1) h in le-leb s number_end (omega arith)
 
 -- TAKEN of a requester
 pub taken_well : (f : Figures) (n h b : ℕ) → (has_processor f n || is_device n) ≡ true → h ≡ home_node b → b < 16 → Well f (plain kind.Taken n h b)

@@ -1,4 +1,5 @@
 -- What a home keeps is well formed: the request that it has taken, and holders and awaited that are the board's.
+use Rattle.std.proofs.lemmas.Bool.Decides.{nat_tests}
 use Rattle.std.proofs.Common.{◌≡◌, ℕ, zero, suc, Bool, true, false, Some, None, Option, sym, refl, ◌∙◌, subst, ⊎_elim, arith}
 use Rattle.home.specs.Directories.{round_of}
 use Rattle.home.specs.Laws.{is_free}
@@ -14,7 +15,6 @@ use Rattle.home.specs.Sets.{Processors}
 use Rattle.home.specs.declared.request.Request.{Request}
 use Rattle.message.proofs.Soundness.{well_formed_are_sound}
 use Rattle.message.specs.Checks.{has_processor}
-use Rattle.message.specs.Forms.{row}
 use Rattle.message.specs.Kinds.{is_request}
 use Rattle.message.specs.Nodes.{home_node}
 use Rattle.message.specs.declared.figures.Figures.{Figures}
@@ -23,7 +23,7 @@ use Rattle.message.specs.declared.kind.Kind.TheVariants as kind
 use Rattle.message.specs.declared.message.Message.{Message}
 use Rattle.message.proofs.Tables.{put_read}
 use Rattle.std.proofs.lemmas.Bool.{cond_both, both_ways, or_left, cases_Bool}
-use Rattle.coherence.proofs.FormsBuilt.{Well, Fits, as_row, no_nack}
+use Rattle.coherence.proofs.FormsBuilt.{Well, as_row, no_nack}
 
 -- The message that a request came as, to the home of block b.
 abbrev pub asked_of : ℕ → Request → Message ℕ
@@ -53,10 +53,6 @@ pub record HomeWell (f : Figures) (b : ℕ) (h : Home ℕ) : Type 0 where
 
 no_ack : (k : Kind) → is_request k ≡ true → k ≡ kind.Ack → ⊥
 no_ack k h is = both_ways (is_request kind.Ack) refl (subst (λ (j : Kind). is_request j ≡ true) is h)
-
--- the form of a request that was taken
-pub request_fits : (f : Figures) (b : ℕ) (r : Request) → RequestWell f b r → Fits f (row r.kind) (asked_of b r)
-request_fits f b r w = (as_row f (asked_of b r) r.kind refl (no_nack r.kind w.asks) w.well).0
 
 -- a well-formed request is kept as it came
 pub request_kept : (f : Figures) (b : ℕ) (m : Message ℕ) → Well f m → m.receiver ≡ home_node b → is_request m.kind ≡ true → RequestWell f b (request_of m)
@@ -96,32 +92,7 @@ one_more_on_board f s p own on q h =
 
 -- copies are given to processors
 pub copy_goes_to_processor : (f : Figures) (b : ℕ) (r : Request) → RequestWell f b r → gives_copy r.kind ≡ true → has_processor f r.requester ≡ true
-copy_goes_to_processor f b r w gives = go r.kind refl gives
-  where
-    sent_by : (k : Kind) → r.kind ≡ k → Fits f (row k) (asked_of b r)
-    sent_by k is = subst (λ (j : Kind). Fits f (row j) (asked_of b r)) is (request_fits f b r w)
-
-    go : (k : Kind) → r.kind ≡ k → gives_copy k ≡ true → has_processor f r.requester ≡ true
-    go kind.Gets is g = (sent_by kind.Gets is).sender
-    go kind.Getx is g = (sent_by kind.Getx is).sender
-    go kind.Upg is g = (sent_by kind.Upg is).sender
-    go kind.Wb is g = absurd (both_ways false refl g)
-    go kind.Rblk is g = absurd (both_ways false refl g)
-    go kind.Wblk is g = absurd (both_ways false refl g)
-    go kind.Rio is g = absurd (both_ways false refl g)
-    go kind.Wio is g = absurd (both_ways false refl g)
-    go kind.Int is g = absurd (both_ways false refl g)
-    go kind.Inv is g = absurd (both_ways false refl g)
-    go kind.Down is g = absurd (both_ways false refl g)
-    go kind.Ack is g = absurd (both_ways false refl g)
-    go kind.SData is g = absurd (both_ways false refl g)
-    go kind.XData is g = absurd (both_ways false refl g)
-    go kind.Grant is g = absurd (both_ways false refl g)
-    go kind.Done is g = absurd (both_ways false refl g)
-    go kind.Words is g = absurd (both_ways false refl g)
-    go kind.Value is g = absurd (both_ways false refl g)
-    go kind.Nack is g = absurd (both_ways false refl g)
-    go kind.Taken is g = absurd (both_ways false refl g)
+copy_goes_to_processor f b r w gives = grind (arith, nat_tests)
 
 -- A plan is for a request, and asks holders alone.
 abbrev pub PlanGood : Kind → Processors → Option Plan → Type 0

@@ -15,14 +15,13 @@ use Rattle.message.specs.declared.node.Node.{Node}
 use Rattle.message.specs.declared.node.Node.TheVariants as node
 use Rattle.message.specs.declared.reaction.Outbox.{Outbox}
 use Rattle.message.specs.declared.reaction.Reaction.{Reaction}
-use Rattle.ordering.specs.Clocks.{number_end, is_within, passed}
+use Rattle.ordering.specs.Clocks.{number_end}
 use Rattle.ordering.specs.Words.{no_words, one_word, first_word}
-use Rattle.ordering.specs.declared.clock.Clock.{Clock}
 use Rattle.ordering.specs.declared.operation.Words.{Words}
 use Rattle.processor.specs.Calls.{to_device}
 use Rattle.processor.specs.Inputs.{Input, Load, Store, Request, Ldio, Stio, Collect, GiveUp, Poll, Receive, reaction}
 use Rattle.processor.specs.Lines.{line_at}
-use Rattle.processor.specs.Receive.{Outcome, acknowledgement, giving_way, invalidated, downgraded, taking, taking_line, granted, nacked, fetched, fetched_from, receive_kind}
+use Rattle.processor.specs.Receive.{Outcome, giving_way, invalidated, downgraded, taking, taking_line, granted, nacked, fetched, fetched_from, receive_kind}
 use Rattle.processor.specs.Slots.{slot_at}
 use Rattle.processor.specs.States.{numbers_within, at_line}
 use Rattle.processor.specs.declared.line.Line.{Line}
@@ -30,10 +29,10 @@ use Rattle.processor.specs.declared.line.Line.TheVariants.{Invalid, Shared, Excl
 use Rattle.processor.specs.declared.slot.Slot.{Slot}
 use Rattle.processor.specs.declared.slot.Slot.TheVariants as slot
 use Rattle.processor.specs.declared.state.Processor.{Processor}
-use Rattle.std.proofs.lemmas.Bool.{and_parts, and_from, or_left, cond_both, both_ways, ltb-true}
+use Rattle.std.proofs.lemmas.Bool.{or_left, cond_both, both_ways, ltb-true}
 use Rattle.std.proofs.lemmas.Bool.Decides.{nat_tests}
 use Rattle.std.specs.List.{AllByRecursion as All}
-use Rattle.coherence.proofs.FormsBuilt.{Well, fits_by, home_end, home_end_at, global_within, number_below, taken_well, from_home}
+use Rattle.coherence.proofs.FormsBuilt.{Well, fits_by, home_end, taken_well, from_home}
 
 -- What may come to a processor: a word that the device has, and messages that are well formed.
 abbrev pub Allowed : Figures → Input → Type 0
@@ -53,18 +52,9 @@ SendsWell f r = numbers_within r.next ≡ true → All (Well f) (sent r.sent)
 abbrev ToldWell : Figures → Outcome → Type 0
 ToldWell f o = IfSome o (SendsWell f)
 
--- the parts of a processor's numbers
-clock_within : (s : Processor ℕ) → numbers_within s ≡ true → leb s.clock.global number_end ≡ true
-clock_within s h = global_within s.clock (and_parts (is_within s.clock) (leb s.sequence (number_end + 1)) h).0
-
 module _ (f : Figures) (n : ℕ) (own : has_processor f n ≡ true) where
-  ack_well : (h b c : ℕ) (x : Bool) (ws : Words) → h ≡ home_node b → b < 16 → leb c number_end ≡ true → (x || all_are_zero ws) ≡ true → Well f (acknowledgement n h b c x ws)
-  ack_well h b c x ws is small le zero =
-      fits_by f (row kind.Ack) (acknowledgement n h b c x ws) (record { sender = own; receiver = home_end_at f h b is small; words = zero; numbers = and_from (leb c number_end) true le refl })
-
   gives_way_well : (s : Processor ℕ) (h b : ℕ) (l : Line) (x : Bool) (ws : Words) → h ≡ home_node b → b < 16 → (x || all_are_zero ws) ≡ true → SendsWell f (giving_way s n h b l x ws)
-  gives_way_well s h b l x ws is small zero within =
-      (ack_well h b (passed s.clock s.clock.global).global x ws is small (clock_within (giving_way s n h b l x ws).next within) zero, tt)
+  gives_way_well s h b l x ws is small zero within = grind (arith, nat_tests)
 
   takes_well : (s : Processor ℕ) (h b c : ℕ) → h ≡ home_node b → b < 16 → SendsWell f (taking s n h b c)
   takes_well s h b c is small within = (taken_well f n h b (or_left (has_processor f n) _ own) is small, tt)
@@ -85,16 +75,7 @@ module _ (f : Figures) (n : ℕ) (own : has_processor f n ≡ true) where
     line_well l = takes_well (at_line m.place l s) m.sender m.place m.clock from small
 
     grant_well : (l : Line) → line_at s.lines m.place ≡ l → ToldWell f (granted s n m.sender m.place m.clock)
-    grant_well l is = cond_both (is_out s.requests m.place kind.Upg) _ None (ToldWell f) (λ _. go l is) (λ _. tt)
-      where
-        go : (l : Line) → line_at s.lines m.place ≡ l → ToldWell f (elim (line_at s.lines m.place) [
-          | Invalid ↦ None
-          | Shared ws ↦ Some (taking_line s n m.sender m.place m.clock (Exclusive ws))
-          | Exclusive ws ↦ None
-        ])
-        go Invalid is = rw is tt
-        go (Shared ws) is = rw is (line_well (Exclusive ws))
-        go (Exclusive ws) is = rw is tt
+    grant_well l is = grind (arith, nat_tests)
 
   nack_well : (s : Processor ℕ) (b : ℕ) (k : Option Kind) → ToldWell f (nacked s b k)
   nack_well s b None = tt
@@ -185,11 +166,7 @@ module _ (f : Figures) (n : ℕ) (own : has_processor f n ≡ true) where
 
   numbers_well : (s : Processor ℕ) (r : Reaction (Processor ℕ)) → r.next.clock ≡ s.clock → r.next.sequence ≡ s.sequence + 1 → numbers_within r.next ≡ true
       → (leb s.clock.global number_end && leb s.sequence number_end) ≡ true
-  numbers_well s r clock sequence within =
-      let a = and_parts (is_within r.next.clock) (leb r.next.sequence (number_end + 1)) within in
-      let c : is_within s.clock ≡ true = subst (λ (x : Clock ℕ). is_within x ≡ true) clock a.0 in
-      let q : leb (s.sequence + 1) (number_end + 1) ≡ true = subst (λ (x : ℕ). leb x (number_end + 1) ≡ true) sequence a.1 in
-      and_from (leb s.clock.global number_end) (leb s.sequence number_end) (global_within s.clock c) (number_below s.sequence q)
+  numbers_well s r clock sequence within = grind (arith, nat_tests)
 
   pub processor_sends : (s : Processor ℕ) (i : Input) (r : Reaction (Processor ℕ)) → Allowed f i → reaction s n i ≡ Some r → numbers_within r.next ≡ true
       → All (Well f) (sent r.sent)

@@ -1,4 +1,5 @@
 -- How an effect arises, with what was checked before: arguments in range, and a well-formed message that goes to its receiver.
+use Rattle.std.proofs.lemmas.Bool.Decides.{nat_tests}
 use Rattle.std.proofs.Common.{◌≡◌, ℕ, ◌<◌, ◌≤◌, Bool, true, false, cond, ltb, length, get_or, Some, None, Ok, Err, Option, Result, sym, refl, ap, ◌∙◌, subst, arith}
 use Rattle.bridge.specs.Inputs as bridge
 use Rattle.bridge.specs.Reactions as bridge_reactions
@@ -144,11 +145,7 @@ module _ {A B : Type 0} (ma : Meaning A) (mb : Meaning B) (w : World A B) where
 
   -- how many words the figures give a device
   counted_words : (d : ℕ) → d < 2 → word_count (figures ma mb w) (device_node d) ≡ length (words_of ma mb w d)
-  counted_words d two = go (ltb d 1) refl
-    where
-      go : (b : Bool) → ltb d 1 ≡ b → word_count (figures ma mb w) (device_node d) ≡ length (words_of ma mb w d)
-      go true low = let lt = ltb-true d 1 low in let e : d ≡ 0 = omega arith in subst (λ (n : ℕ). word_count (figures ma mb w) (device_node n) ≡ length (words_of ma mb w n)) (sym e) refl
-      go false high = let le = ltb-false d 1 high in let e : d ≡ 1 = omega arith in subst (λ (n : ℕ). word_count (figures ma mb w) (device_node n) ≡ length (words_of ma mb w n)) (sym e) refl
+  counted_words d two = grind (arith, nat_tests)
 
   has_word : (d n : ℕ) → ltb d 2 ≡ true → ltb n (length (words_of ma mb w d)) ≡ true → ltb n (word_count (figures ma mb w) (device_node d)) ≡ true
   has_word d n two h = subst (λ (k : ℕ). ltb n k ≡ true) (sym (counted_words d (ltb-true d 2 two))) h

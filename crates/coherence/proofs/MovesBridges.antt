@@ -1,5 +1,5 @@
 -- What a device's node does is, for a block, one of the moves.
-use Rattle.std.proofs.Common.{◌≡◌, ℕ, ◌<◌, ◌≤◌, true, false, cond, eqb, ◌⊎◌, List, [], ◌∷◌, ◌++◌, length, get_or, Some, None, filter, Option, sym, refl, ap, ◌∙◌, subst, inl, inr, ⊎_elim, arith}
+use Rattle.std.proofs.Common.{◌≡◌, ℕ, ◌<◌, ◌≤◌, true, false, cond, eqb, List, [], ◌∷◌, ◌++◌, length, get_or, Some, None, filter, Option, sym, refl, ap, ◌∙◌, subst, inr, ⊎_elim, arith}
 use Rattle.bridge.specs.Inputs.{Input, Act, Receive, reaction}
 use Rattle.bridge.specs.Acts.{wish_message}
 use Rattle.bridge.specs.Receipts.{again}
@@ -20,7 +20,7 @@ use Rattle.message.specs.declared.reaction.Outbox.{Outbox}
 use Rattle.message.specs.declared.reaction.Reaction.{Reaction}
 use Rattle.ordering.specs.declared.operation.Words.{Words}
 use Rattle.std.proofs.lemmas.List.{get_or-set_same, get_or-set_other}
-use Rattle.std.proofs.lemmas.Bool.{and_from, and_right, cases_Bool, cases_eq, eq-eqb, eqb-true, ne_eqb, or_left}
+use Rattle.std.proofs.lemmas.Bool.{and_from, and_right, cases_eq, eq-eqb, ne_eqb, or_left}
 use Rattle.std.proofs.lemmas.Bool.Decides.{nat_tests}
 use Rattle.std.specs.Option.{option_to_list}
 use Rattle.trail.specs.declared.entry.Entry.{Entry}
@@ -51,11 +51,7 @@ module _ (b : ℕ) (low : b < 16) (x y : Block) (n : ℕ) (device : 4 ≤ n) (tw
       (was_out : x.out n ≡ out br.requests b) (outs : OutPut b x y n (out r.next.requests b))
       (new_trail : y.trail ≡ filter (on b) (trail ++ option_to_list r.entry)) where
     outs_stay : out r.next.requests b ≡ out br.requests b → OutsStay b x y
-    outs_stay same q = outs q ∙ go (cases_Bool (eqb n q))
-      where
-        go : (eqb n q ≡ true) ⊎ (eqb n q ≡ false) → cond (eqb n q) (out r.next.requests b) (x.out q) ≡ x.out q
-        go (inl here) = rw here (same ∙ sym was_out ∙ ap x.out (eqb-true n q here))
-        go (inr there) = rw there refl
+    outs_stay same q = grind (arith, nat_tests)
 
     trail_stays : (i : Input) → reaction m d br i ≡ Some r → y.trail ≡ x.trail
     trail_stays i h = new_trail ∙ kept_added (on b) trail (option_to_list r.entry) (wishes.off_blocks m d br r i h b) ∙ sym old_trail

@@ -1,17 +1,13 @@
 -- What a home does is, for its block, one move or two, and nothing for any other.
-use Rattle.std.proofs.Common.{◌≡◌, ℕ, true, false, ◌||◌, eqb, [], IfSome, Some, None, filter, Option, sym, refl, ◌∙◌, subst, arith}
-use Rattle.home.proofs.Back.{one_more}
+use Rattle.std.proofs.Common.{◌≡◌, ℕ, true, false, ◌||◌, eqb, [], IfSome, Some, None, filter, Option, sym, refl, ◌∙◌, arith}
 use Rattle.home.proofs.Keeps.{by_rule}
 use Rattle.home.specs.Directories.{round_of, view, awaits}
 use Rattle.home.specs.Plans.{plan}
-use Rattle.home.specs.Reactions.{finished, ask_one, asks, began, heard_home, after_hearing, awaits_taken, received}
+use Rattle.home.specs.Reactions.{finished, asks, began, heard_home, after_hearing, awaits_taken, received}
 use Rattle.home.specs.Requests.{request_of, asks_by, reply_kind}
-use Rattle.home.specs.Sets.{has, is_empty}
+use Rattle.home.specs.Sets.{is_empty}
 use Rattle.home.specs.declared.directory.Directory.{Directory}
-use Rattle.home.specs.declared.directory.Phase.{Phase}
-use Rattle.home.specs.declared.directory.Phase.TheVariants.{Free, Gathering, Replied}
-use Rattle.home.specs.declared.directory.View.{View}
-use Rattle.home.specs.declared.directory.View.TheVariants.{Busy}
+use Rattle.home.specs.declared.directory.Phase.TheVariants.{Free}
 use Rattle.home.specs.declared.machine.Home.{Home}
 use Rattle.home.specs.declared.plan.Plan.TheVariants.{Ask}
 use Rattle.home.specs.Sets.{Processors}
@@ -36,10 +32,7 @@ use Rattle.coherence.proofs.Timing.{came_so}
 
 -- what holds of each question holds of all of them
 pub each_asked : (Q : Message ℕ → Type 0) (k : Kind) (b : ℕ) (s : Processors) → ((p : ℕ) → Q (plain k (home_node b) p b)) → All Q (sent (asks k b s))
-each_asked Q k b s each = one_more Q _ _ (one 0) (one_more Q _ _ (one 1) (one_more Q _ _ (one 2) (one_more Q _ _ (one 3) tt)))
-  where
-    one : (p : ℕ) → IfSome (ask_one k b s p) Q
-    one p = cond_both (has s p) (Some (plain k (home_node b) p b)) None (λ (o : Option (Message ℕ)). IfSome o Q) (λ _. each p) (λ _. tt)
+each_asked Q k b s each = grind (arith, nat_tests)
 
 -- Everything that the home of block a sends is about block a.
 sends_own : (a : ℕ) (h : Home ℕ) (m : Message ℕ) → IfSome (received h a m) (λ x. All (λ n. n.place ≡ a) (sent x.sent))
@@ -91,17 +84,6 @@ replies_come k = grind (arith, nat_tests)
 pub questions_come : (k : Kind) → (goes_home (asks_by k) || comes_from_home (asks_by k)) ≡ true
 questions_come k = grind (arith, nat_tests)
 
-busy_refuses : (k : Kind) (h s : Processors) (p : ℕ) → plan k Busy h p ≡ Some (Ask s) → ⊥
-busy_refuses k h s p is = grind (arith, nat_tests)
-
 -- a home that asks is free
 pub asks_if_free : (d : Directory) (k : Kind) (s : Processors) (p : ℕ) → plan k (view d) d.holders p ≡ Some (Ask s) → d.phase ≡ Free
-asks_if_free d k s p is = go d.phase refl
-  where
-    busy : view d ≡ Busy → ⊥
-    busy at = busy_refuses k d.holders s p (subst (λ (v : View). plan k v d.holders p ≡ Some (Ask s)) at is)
-
-    go : (f : Phase) → d.phase ≡ f → d.phase ≡ Free
-    go Free at = at
-    go (Gathering g) at = absurd (busy (rw at refl))
-    go (Replied r) at = absurd (busy (rw at refl))
+asks_if_free d k s p is = grind (arith, nat_tests)

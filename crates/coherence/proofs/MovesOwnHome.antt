@@ -1,5 +1,6 @@
 -- A message that reaches its block's home is one move, or two: a request taken or the last acknowledgement heard, and then
 -- the home finishes.
+use Rattle.std.proofs.lemmas.Bool.Decides.{nat_tests}
 use Rattle.std.proofs.Common.{◌≡◌, ℕ, ◌<◌, Bool, true, false, cond, ◌||◌, eqb, ltb, ◌⊎◌, List, [], ◌∷◌, ◌++◌, length, get_or, Some, None, filter, Option, sym, refl, ap, ◌∙◌, subst, inl, inr, arith}
 use Rattle.home.specs.Directories.{round_of, view, awaits, freed}
 use Rattle.home.specs.Homes.{home}
@@ -32,7 +33,6 @@ use Rattle.coherence.proofs.Carrying.{gathers}
 use Rattle.coherence.proofs.Classes.{marked_ack}
 use Rattle.coherence.proofs.Clocks.{Shape}
 use Rattle.coherence.proofs.FormsKept.{PlanGood, plan_good}
-use Rattle.coherence.proofs.HomeClocks.{finishes as timely}
 use Rattle.coherence.proofs.Moves.{Moves, Passes, once, twice, refuses, asks_holders, hears, finishes, frees}
 use Rattle.coherence.proofs.MovesHomes.{each_asked, request_class, replies_come, questions_come, asks_if_free}
 use Rattle.coherence.proofs.Phases.{gathers_so}
@@ -105,13 +105,7 @@ module _ {A B : Type 0} (w : World A B) (shape : Shape w) (b : ℕ) (low : b < 1
 
   -- what a home does is on its block
   own_entry : (k : Home ℕ) → filter (on b) (option_to_list (finished k b).entry) ≡ option_to_list (finished k b).entry
-  own_entry k = go (finished k b).entry refl
-    where
-      go : (o : Option Entry) → (finished k b).entry ≡ o → filter (on b) (option_to_list o) ≡ option_to_list o
-      go None at = refl
-      go (Some e) at =
-          let own = (timely k b).enters e at in
-          kept_one (on b) e (and_from (eqb e.space 0) _ (eq-eqb e.space 0 own.space) (rw own.block (eq-eqb e.place b own.place)))
+  own_entry k = grind (arith, nat_tests)
 
   moved : {r q : Reaction (Home ℕ)} → q ≡ r → Passes b x (y q) → Passes b x (y r)
   moved same pass = subst (λ (o : Reaction (Home ℕ)). Passes b x (y o)) same pass

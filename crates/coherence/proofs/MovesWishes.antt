@@ -1,24 +1,22 @@
 -- What each reaction of a bridge is for the blocks: nothing, a request, a reply taken, or a refused request sent again.
-use Rattle.std.proofs.Common.{◌≡◌, ℕ, ◌+◌, ◌<◌, Bool, true, false, cond, ltb, [], length, Some, None, Ok, Err, filter, Option, Result, sym, refl, ap, ◌∙◌, arith}
+use Rattle.std.proofs.Common.{◌≡◌, ℕ, ◌+◌, ◌<◌, true, false, [], length, Some, None, Ok, Err, filter, Option, Result, sym, refl, ◌∙◌, arith}
 use Rattle.bridge.specs.Acts.{Decision, numbering, wish_message, request, act_on}
 use Rattle.bridge.specs.Deeds.{performed}
 use Rattle.bridge.specs.Inputs.{Input, Act, Receive, reaction}
 use Rattle.bridge.specs.Receipts.{again, answering, replied, receive_kind, refused}
 use Rattle.bridge.specs.declared.fault.DeviceFault.{DeviceFault}
-use Rattle.bridge.specs.declared.fault.DeviceFault.TheVariants.{NoWish, BadWish, MustWait}
+use Rattle.bridge.specs.declared.fault.DeviceFault.TheVariants.{NoWish}
 use Rattle.bridge.specs.declared.plan.Deed.{Deed}
-use Rattle.bridge.specs.declared.plan.Deed.TheVariants.{Request, Land, Finish, Resend}
+use Rattle.bridge.specs.declared.plan.Deed.TheVariants.{Request, Land, Finish}
 use Rattle.bridge.specs.declared.plan.Plan.{Plan}
 use Rattle.bridge.specs.declared.state.Bridge.{Bridge}
 use Rattle.bridge.proofs.Clocks.{entries_are_stamped}
 use Rattle.device.specs.Meaning.{Meaning}
 use Rattle.device.specs.declared.meaning.Wish.{Wish}
-use Rattle.message.proofs.Numbering.{numbers_tell_kinds}
-use Rattle.message.specs.Kinds.{same_kind}
 use Rattle.message.specs.Messages.{plain}
 use Rattle.message.specs.Nodes.{device_node, home_node}
 use Rattle.message.specs.Reactions.{sent, single}
-use Rattle.message.specs.Requests.{out, is_out, with_out}
+use Rattle.message.specs.Requests.{out, with_out}
 use Rattle.message.specs.declared.kind.Kind.{Kind}
 use Rattle.message.specs.declared.kind.Kind.TheVariants as kind
 use Rattle.message.specs.declared.message.Message.{Message}
@@ -28,7 +26,7 @@ use Rattle.ordering.specs.declared.operation.Operation.{Operation}
 use Rattle.ordering.specs.declared.operation.Operation.TheVariants.{Ld, St, LdIo, StIo, Int, LdBlk, StBlk}
 use Rattle.ordering.specs.declared.operation.Words.{Words}
 use Rattle.ordering.specs.Clocks.{passed}
-use Rattle.std.proofs.lemmas.Bool.{ltb-true, ne_eqb}
+use Rattle.std.proofs.lemmas.Bool.{ne_eqb}
 use Rattle.std.proofs.lemmas.Bool.Decides.{nat_tests}
 use Rattle.std.specs.Option.{option_to_list}
 use Rattle.coherence.proofs.Arising.{never}
@@ -61,14 +59,7 @@ module _ {S : Type 0} (m : Meaning S) (d : ℕ) (br : Bridge S ℕ) (r : Reactio
     asks : (k : Kind) (a : ℕ) (ws : Words) → Asks k a ws → Acts
 
   asked : (k : Kind) (a : ℕ) (ws : Words) → is_block_request k ≡ true → length ws.at ≡ 4 → comes_to (request d br k a ws) ≡ Some r → Asks k a ws
-  asked k a ws block_kind four h = go (ltb a 16) (out br.requests a) refl refl h
-    where
-      go : (t : Bool) (o : Option Kind) → ltb a 16 ≡ t → out br.requests a ≡ o
-          → comes_to (cond t (elim o [ Some q ↦ Err (MustWait d) | None ↦ Ok (numbering br br.clock (Request (wish_message k d br (home_node a) a ws))) ]) (Err (BadWish d))) ≡ Some r
-          → Asks k a ws
-      go false o low none h = never cc
-      go true (Some q) low none h = never cc
-      go true None low none h = record { block_request = block_kind; four = four; low = ltb-true a 16 low; free = none; is = (let same : request_sent k a ws ≡ r = cc in sym same) }
+  asked k a ws block_kind four h = grind (arith, nat_tests)
 
   by_operation : (ps : ℕ) (h : Wish) (o : Operation) → length h.words.at ≡ 4 → comes_to (act_on o m d ps br h) ≡ Some r → Acts
   by_operation ps h Ld four is = never cc
@@ -115,13 +106,6 @@ module _ {S : Type 0} (m : Meaning S) (d : ℕ) (br : Bridge S ℕ) (r : Reactio
     finished : x.kind ≡ kind.Done → Ends kind.Wblk x → Gets x
     sent_again : (k : Kind) → x.kind ≡ kind.Nack → Again k x → Gets x
 
-  is_asked : (b : ℕ) (k : Kind) → is_out br.requests b k ≡ true → out br.requests b ≡ Some k
-  is_asked b k is = go (out br.requests b) refl is
-    where
-      go : (o : Option Kind) → out br.requests b ≡ o → elim o [ None ↦ false | Some j ↦ same_kind j k ] ≡ true → out br.requests b ≡ Some k
-      go None at is = never cc
-      go (Some j) at is = at ∙ ap Some (numbers_tell_kinds j k is)
-
   abbrev does : Option (Plan ℕ) → Option (Reaction (Bridge S ℕ))
   does z = elim z [ Some p ↦ Some (performed m d br p) | None ↦ None ]
 
@@ -129,39 +113,10 @@ module _ {S : Type 0} (m : Meaning S) (d : ℕ) (br : Bridge S ℕ) (r : Reactio
   ended : (x : Message ℕ) (k : Kind) (a : Deed) → ((performed m d br (answering br (passed br.clock x.clock) a)).next.requests ≡ with_out br.requests x.place None)
       → (performed m d br (answering br (passed br.clock x.clock) a)).sent ≡ single (plain kind.Taken (device_node d) x.sender x.place)
       → does (replied br x k a) ≡ Some r → Ends k x
-  ended x k a requests sends h = go (is_out br.requests x.place k) refl h
-    where
-      go : (t : Bool) → is_out br.requests x.place k ≡ t → does (cond t (Some (answering br (passed br.clock x.clock) a)) None) ≡ Some r → Ends k x
-      go false is h = never cc
-      go true is h =
-          let same : performed m d br (answering br (passed br.clock x.clock) a) ≡ r = cc in
-          record {
-            asked = is_asked x.place k is;
-            requests = ap (λ (z : Reaction (Bridge S ℕ)). z.next.requests) (sym same) ∙ requests;
-            sends = ap (λ (z : Reaction (Bridge S ℕ)). z.sent) (sym same) ∙ sends;
-          }
+  ended x k a requests sends h = grind (arith, nat_tests)
 
   resent : (x : Message ℕ) → does (refused d br x) ≡ Some r → (k : Kind) × Again k x
-  resent x h = go x.refused refl h
-    where
-      plan : Kind → Plan ℕ
-      plan k = answering br br.clock (Resend (again k d br x))
-
-      inner : (k : Kind) (t : Bool) → x.refused ≡ Some k → is_out br.requests x.place k ≡ t → does (cond t (Some (plan k)) None) ≡ Some r → Again k x
-      inner k false at is h = never cc
-      inner k true at is h =
-          let same : performed m d br (plan k) ≡ r = cc in
-          record {
-            refused = at;
-            asked = is_asked x.place k is;
-            requests = ap (λ (z : Reaction (Bridge S ℕ)). z.next.requests) (sym same);
-            sends = ap (λ (z : Reaction (Bridge S ℕ)). z.sent) (sym same);
-          }
-
-      go : (o : Option Kind) → x.refused ≡ o
-          → does (elim o [ None ↦ None | Some k ↦ cond (is_out br.requests x.place k) (Some (plan k)) None ]) ≡ Some r → (k : Kind) × Again k x
-      go None at h = never cc
-      go (Some k) at h = (k, inner k (is_out br.requests x.place k) at refl h)
+  resent x h = grind (arith, nat_tests)
 
   pub got : (x : Message ℕ) → reaction m d br (Receive x) ≡ Some r → Gets x
   got x h = go x.kind refl h

@@ -1,5 +1,5 @@
 -- Every effect is, for each block, one of its moves, or two in turn.
-use Rattle.std.proofs.Common.{◌≡◌, ℕ, ◌<◌, ◌≤◌, true, cond, eqb, ◌⊎◌, List, length, Some, sym, refl, ap, ◌∙◌, subst, inl, inr, arith}
+use Rattle.std.proofs.Common.{◌≡◌, ℕ, ◌<◌, ◌≤◌, true, eqb, ◌⊎◌, List, length, Some, sym, refl, ap, ◌∙◌, subst, inl, inr, arith}
 use Rattle.bridge.specs.declared.state.Bridge.{Bridge}
 use Rattle.device.specs.Meaning.{Meaning}
 use Rattle.home.specs.Reactions.{received}
@@ -20,7 +20,7 @@ use Rattle.std.proofs.lemmas.List.{get_or-set_other}
 use Rattle.std.proofs.lemmas.Bool.{and_right, cases_eq, ne_eqb}
 use Rattle.std.proofs.lemmas.Bool.Decides.{nat_tests}
 use Rattle.std.specs.Option.{option_to_list}
-use Rattle.coherence.proofs.Blocks.{Block, block, about, on, request_out}
+use Rattle.coherence.proofs.Blocks.{Block, block, about, on}
 use Rattle.coherence.proofs.Clocks.{Shape}
 use Rattle.coherence.proofs.Forms.{HomesWell}
 use Rattle.coherence.proofs.FormsBuilt.{Well, refuses_requests}
@@ -83,18 +83,10 @@ module _ {A B : Type 0} (ma : Meaning A) (mb : Meaning B) where
     Now ms e = Passes b x (block b (after w ms e))
 
     first_out : (r : Bridge A ℕ) → OutPut b x (block b (with_first w r)) 4 (out r.requests b)
-    first_out r q = go (cases_eq q 4)
-      where
-        go : (q ≡ 4) ⊎ (q ≡ 4 → ⊥) → request_out (with_first w r) b q ≡ cond (eqb 4 q) (out r.requests b) (request_out w b q)
-        go (inl same) = subst (λ (n : ℕ). request_out (with_first w r) b n ≡ cond (eqb 4 n) (out r.requests b) (request_out w b n)) (sym same) refl
-        go (inr apart) = rw (ne_eqb q 4 apart, ne_eqb 4 q (λ e. apart (sym e))) refl
+    first_out r q = grind (arith, nat_tests)
 
     second_out : (r : Bridge B ℕ) → OutPut b x (block b (with_second w r)) 5 (out r.requests b)
-    second_out r q = go (cases_eq q 5)
-      where
-        go : (q ≡ 5) ⊎ (q ≡ 5 → ⊥) → request_out (with_second w r) b q ≡ cond (eqb 5 q) (out r.requests b) (request_out w b q)
-        go (inl same) = subst (λ (n : ℕ). request_out (with_second w r) b n ≡ cond (eqb 5 n) (out r.requests b) (request_out w b n)) (sym same) refl
-        go (inr apart) = rw (ne_eqb q 5 apart, ne_eqb 5 q (λ e. apart (sym e))) refl
+    second_out r q = grind (arith, nat_tests)
 
     -- what was checked of a delivered message
     sender_known : (m : Message ℕ) → Well (figures ma mb w) m → comes_from_home m.kind ≡ true → m.sender ≡ home_node m.place

@@ -11,7 +11,7 @@ use Rattle.message.specs.declared.message.Message.{Message}
 use Rattle.processor.specs.Inputs as processor
 use Rattle.processor.specs.declared.state.Processor.{Processor}
 use Rattle.std.proofs.lemmas.List.{get_or-set_other, get_or-set_same}
-use Rattle.std.proofs.lemmas.Bool.{cases_eq, lt-ltb, ne_eqb, or_left}
+use Rattle.std.proofs.lemmas.Bool.{cases_eq, lt-ltb, or_left}
 use Rattle.std.proofs.lemmas.Bool.Decides.{nat_tests}
 use Rattle.std.proofs.lemmas.Option.{none-some}
 use Rattle.std.specs.Option.{option_map}
@@ -55,18 +55,10 @@ module _ {A B : Type 0} (w : World A B) where
       go (inr apart) = let same = processor_other p x n apart in omega arith
 
   pub first_onward : (x : Bridge A ℕ) → w.first.sequence ≤ x.sequence → (n : ℕ) → next_number w n ≤ next_number (with_first w x) n
-  first_onward x up n = go (cases_eq n 4)
-    where
-      go : (n ≡ 4) ⊎ (n ≡ 4 → ⊥) → next_number w n ≤ next_number (with_first w x) n
-      go (inl same) = subst (λ (m : ℕ). next_number w m ≤ next_number (with_first w x) m) (sym same) up
-      go (inr apart) = rw (ne_eqb n 4 apart) (omega arith)
+  first_onward x up n = grind (arith, nat_tests)
 
   pub second_onward : (x : Bridge B ℕ) → w.second.sequence ≤ x.sequence → (n : ℕ) → next_number w n ≤ next_number (with_second w x) n
-  second_onward x up n = go (cases_eq n 5)
-    where
-      go : (n ≡ 5) ⊎ (n ≡ 5 → ⊥) → next_number w n ≤ next_number (with_second w x) n
-      go (inl same) = subst (λ (m : ℕ). next_number w m ≤ next_number (with_second w x) m) (sym same) up
-      go (inr apart) = rw (ne_eqb n 5 apart) (omega arith)
+  second_onward x up n = grind (arith, nat_tests)
 
 module _ {A B : Type 0} (ma : Meaning A) (mb : Meaning B) (w : World A B) where
   -- what a call of a processor issues

@@ -28,23 +28,12 @@ said p z a h =
 -- before an LD or ST: LDs, STs and LDios
 pub before_memory : (z a : Access) → is_memory a.operation ≡ true → processor_issues a ≡ true → processor_issues z ≡ true → ordered Processor z a ≡ true
     → is_memory z.operation ≡ false → is LdIo z.operation ≡ true
-before_memory z a memory own fits h other = go z.operation z.space z.place fits (said Processor z a h) other
-  where
-    go : (o : Operation) (s p : ℕ) → processor_issues (access o s p) ≡ true → in_words Processor (access o s p) a ≡ true → is_memory o ≡ false → is LdIo o ≡ true
-    go Ld s p fits w other = absurd (both_ways true other refl)
-    go St s p fits w other = absurd (both_ways true other refl)
-    go LdIo s p fits w other = refl
-    go StIo s p fits w other = grind (arith, nat_tests)
-    go Int s p fits w other = absurd (both_ways false refl fits)
-    go LdBlk s p fits w other = absurd (both_ways false refl fits)
-    go StBlk s p fits w other = absurd (both_ways false refl fits)
+before_memory z a memory own fits h other = grind (arith, nat_tests)
 
 -- before a processor's LDio or STio: LDs, STs, and those to the same device
 pub before_io : (z a : Access) → is_io a.operation ≡ true → processor_issues z ≡ true → ordered Processor z a ≡ true
     → is_io z.operation ≡ true → z.space ≡ a.space
-before_io z a io fits h other =
-    let w = said Processor z a h in
-    grind (arith, nat_tests)
+before_io z a io fits h other = grind (arith, nat_tests)
 
 -- before a device's own LDio or STio: its own
 pub before_own : (n : ℕ) (z a : Access) → is_device n ≡ true → is_io a.operation ≡ true → device_issues n a ≡ true → device_issues n z ≡ true → ordered Device z a ≡ true
@@ -62,9 +51,7 @@ before_own n z a device io own fits h = go z.operation z.space z.place fits (sai
 
 -- before an INT: all but INTs to other processors
 pub before_int : (z a : Access) → is Int a.operation ≡ true → ordered Device z a ≡ true → is Int z.operation ≡ true → z.place ≡ a.place
-before_int z a int h other =
-    let w = said Device z a h in
-    grind (arith, nat_tests)
+before_int z a int h other = grind (arith, nat_tests)
 
 -- before a block operation: the device's own, and those on the same block
 pub before_block : (n : ℕ) (z a : Access) → is_block a.operation ≡ true → device_issues n a ≡ true → device_issues n z ≡ true → ordered Device z a ≡ true

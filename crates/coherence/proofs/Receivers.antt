@@ -1,5 +1,6 @@
 -- Receivers by the form of the message: which nodes its ends are, and how it comes to its rule there.
-use Rattle.std.proofs.Common.{◌≡◌, ℕ, zero, suc, ◌<◌, ◌≤◌, true, false, eqb, ltb, ◌⊎◌, is_some, refl, inl, inr, ⊎_elim, arith}
+use Rattle.std.proofs.lemmas.Bool.Decides.{nat_tests}
+use Rattle.std.proofs.Common.{◌≡◌, ℕ, zero, suc, ◌<◌, ◌≤◌, true, eqb, ltb, ◌⊎◌, is_some, refl, inl, inr, ⊎_elim, arith}
 use Rattle.home.specs.Directories.{awaits}
 use Rattle.home.specs.Reactions.{awaits_taken, received, requested}
 use Rattle.home.specs.Requests.{request_of}
@@ -16,7 +17,7 @@ use Rattle.message.specs.declared.message.Message.{Message}
 use Rattle.processor.specs.Receive as processor
 use Rattle.processor.specs.Slots.{is_awaited, slot_at}
 use Rattle.processor.specs.declared.state.Processor.{Processor}
-use Rattle.std.proofs.lemmas.Bool.{and_parts, eqb-true, leb-true, ne_eqb, lt-ltb, ltb-true, or_cases}
+use Rattle.std.proofs.lemmas.Bool.{and_parts, eqb-true, lt-ltb, ltb-true, or_cases}
 use Rattle.coherence.proofs.Blocks.{peer, token}
 use Rattle.coherence.proofs.Rules.{value_ruled}
 
@@ -25,10 +26,7 @@ pub request_class : (m : Message ℕ) → is_request m.kind ≡ true → (token 
 request_class m is = grind arith
 
 pub takes_request : (h : Home ℕ) (b : ℕ) (m : Message ℕ) → b < 16 → is_request m.kind ≡ true → is_some (requested h b (request_of m)) ≡ true → is_some (received h b m) ≡ true
-takes_request h b m small is ruled = rw (lt-ltb b 16 small, other 12 (omega arith), other 20 (omega arith)) ruled
-  where
-    other : (c : ℕ) → 6 < c → eqb (kind_number m.kind) c ≡ false
-    other c far = ne_eqb (kind_number m.kind) c (λ same. omega (arith, leb-true (kind_number m.kind) 6 is))
+takes_request h b m small is ruled = grind (arith, nat_tests)
 
 pub takes_ack : (h : Home ℕ) (b : ℕ) (m : Message ℕ) → b < 16 → m.kind ≡ kind.Ack → awaits h.directory m.sender ≡ true → is_some (received h b m) ≡ true
 takes_ack h b m small is ready = rw (lt-ltb b 16 small, is, ready) refl

@@ -1,5 +1,6 @@
 -- What the tokens of a block say of the receiver of each message that waits, and that a receiver so found has a rule.
-use Rattle.std.proofs.Common.{◌≡◌, ℕ, ◌+◌, ◌≤◌, true, false, is_some, Some, None, Option, ap, arith}
+use Rattle.std.proofs.lemmas.Bool.Decides.{nat_tests}
+use Rattle.std.proofs.Common.{◌≡◌, ℕ, ◌+◌, ◌≤◌, true, false, is_some, arith}
 use Rattle.home.specs.Directories.{awaits, view}
 use Rattle.home.specs.Laws.{has_replied}
 use Rattle.home.specs.Plans.{plan}
@@ -10,7 +11,7 @@ use Rattle.home.specs.declared.directory.View.TheVariants.{Busy}
 use Rattle.home.specs.declared.machine.Home.{Home}
 use Rattle.home.specs.Sets.{Processors}
 use Rattle.home.specs.declared.request.Request.{Request}
-use Rattle.message.specs.Kinds.{kind_number, is_request, same_kind}
+use Rattle.message.specs.Kinds.{kind_number, is_request}
 use Rattle.message.specs.Requests.{is_out, out}
 use Rattle.message.specs.declared.kind.Kind.{Kind}
 use Rattle.message.specs.declared.kind.Kind.TheVariants as kind
@@ -21,24 +22,16 @@ use Rattle.processor.specs.Slots.{slot_at, is_awaited}
 use Rattle.processor.specs.declared.state.Processor.{Processor}
 use Rattle.coherence.proofs.Blocks.{Block, pending}
 use Rattle.coherence.proofs.Carrying.{gathers}
-use Rattle.coherence.proofs.Counting.{indicator, indicator_most, sure}
+use Rattle.coherence.proofs.Counting.{indicator_most}
 use Rattle.coherence.proofs.Shifts.{apart}
 use Rattle.coherence.proofs.Sole.{copies_add, held_most}
 use Rattle.coherence.proofs.Tokens.{Tokens, answering, awaited, gathering, held, holder, out_is, owned, shared}
-use Rattle.coherence.proofs.TokensFreed.{answering_as}
 use Rattle.coherence.proofs.TokensRequests.{by_request}
 
 module _ (x : Block) (t : Tokens x) (p : ℕ) where
   -- GETS and GETX come from one that the home does not know as a holder, once the home is free,
   pub unknown : 1 ≤ pending x.messages 1 p + pending x.messages 2 p → gathers x.home ≡ false → has_replied x.home ≡ false → holder x.home p ≡ 0
-  unknown waits idle silent =
-      let a = t.asked p in
-      let k = t.copies p in
-      let w = (t.gathered p).waits in
-      let b = (t.gathered p).busy in
-      let none = ap indicator idle in
-      let quiet = answering_as x.home false silent p in
-      omega (arith, indicator_most)
+  unknown waits idle silent = grind (arith, nat_tests)
 
   -- an ACK from one that is awaited, and TAKEN from the requester.
   pub hears : 1 ≤ pending x.messages 12 p + pending x.messages 41 p → awaits x.home.directory p ≡ true
@@ -76,9 +69,7 @@ module _ (x : Block) (t : Tokens x) (p : ℕ) where
       omega (arith, indicator_most, copies_add (x.line p))
 
   pub finds_shared : 1 ≤ pending x.messages 15 p → shared (x.line p) ≡ 1
-  finds_shared waits =
-      let k = (t.copies p).granted in
-      omega (arith, held_most (x.line p), copies_add (x.line p))
+  finds_shared waits = grind (arith, nat_tests)
 
   -- A reply or a NACK finds its request out.
   pub finds_request : (1 ≤ pending x.messages 13 p → 1 ≤ out_is (x.out p) 1) × (1 ≤ pending x.messages 14 p → 1 ≤ out_is (x.out p) 2)
@@ -94,11 +85,7 @@ module _ (x : Block) (t : Tokens x) (p : ℕ) where
 
 -- The request is out.
 pub out_found : (r : Requests) (b : ℕ) (k : Kind) → 1 ≤ out_is (out r b) (kind_number k) → is_out r b k ≡ true
-out_found r b k one = go (out r b) one
-  where
-    go : (o : Option Kind) → 1 ≤ out_is o (kind_number k) → elim o [ None ↦ false | Some j ↦ same_kind j k ] ≡ true
-    go None one = absurd (omega arith)
-    go (Some j) one = sure (same_kind j k) one
+out_found r b k one = grind (arith, nat_tests)
 
 -- A request has a rule at a home unless a holder asks for a copy.
 pub request_ruled : (h : Home ℕ) (b : ℕ) (r : Request) (v : View) (s : Processors) (p : ℕ) → is_request r.kind ≡ true

@@ -1,8 +1,9 @@
 -- What a run keeps: it holds at the making, and every call keeps it.
-use Rattle.std.proofs.Common.{◌≡◌, ℕ, ◌≤◌, true, ◌&&◌, leb, List, [], ◌∷◌, Ok, Err, sym, refl, ◌∙◌, subst, length-set}
+use Rattle.std.proofs.Common.{arith}
+use Rattle.std.proofs.lemmas.Bool.Decides.{nat_tests}
+use Rattle.std.proofs.Common.{◌≡◌, ℕ, List, [], ◌∷◌, Ok, Err, sym, refl, ◌∙◌, subst, length-set}
 use Rattle.device.specs.Meaning.{Meaning}
 use Rattle.message.specs.declared.message.Message.{Message}
-use Rattle.std.proofs.lemmas.Bool.{and_parts, leb-true}
 use Rattle.std.specs.List.{AllByRecursion as All}
 use Rattle.coherence.proofs.Arising.{Arises, at_processor, at_home, at_first, at_second}
 use Rattle.coherence.proofs.Meeting.{meets, meets_arises}
@@ -12,7 +13,7 @@ use Rattle.coherence.proofs.Rising.{Apart, unique_stamps}
 use Rattle.coherence.proofs.Stepping.{after, steps}
 use Rattle.coherence.proofs.Timing.{timely}
 use Rattle.coherence.specs.Histories.{History, answered, called_on, after_calls, began, run}
-use Rattle.coherence.specs.Makings.{Making, rest_fits, is_fit, make}
+use Rattle.coherence.specs.Makings.{Making, make}
 use Rattle.coherence.specs.Promise.{OwnStamps}
 use Rattle.coherence.specs.Steps.{Answer, Effect, waiting, step}
 use Rattle.coherence.specs.Worlds.{World}
@@ -43,12 +44,7 @@ module _ {A B : Type 0} (ma : Meaning A) (mb : Meaning B) where
       subst (λ (x : Effect A B). Shape (after w ms x)) (sym is) (record { processors = s.processors; homes = s.homes; few = s.few })
 
   pub shape_made : (k : Making A B) → Shape (make ma mb k)
-  shape_made k = record { processors = refl; homes = refl; few = few }
-    where
-      few : is_fit ma mb k ≡ true → k.processors ≤ 4
-      few fit =
-          let some = and_parts (leb 1 k.processors) (leb k.processors 4 && rest_fits ma mb k) fit in
-          leb-true k.processors 4 (and_parts (leb k.processors 4) (rest_fits ma mb k) some.1).0
+  shape_made k = grind (arith, nat_tests)
 
   -- Four processors and sixteen homes, a trail in the past of their clocks, and no stamp twice.
   pub record Timed (w : World A B) : Type 0 where

@@ -1,14 +1,12 @@
 -- Where operations are done: a processor's on memory at itself, those on a device's words at the device's node, an
 -- interrupt at its processor, a block operation at the block's home. So entries of one device are in one node's order.
-use Rattle.std.proofs.Common.{◌≡◌, ℕ, ◌+◌, true, false, cond, ◌||◌, is_some, Some, None, Option, sym, refl, ap, ◌∙◌, subst, inl, inr, arith}
+use Rattle.std.proofs.Common.{◌≡◌, ℕ, ◌+◌, true, false, cond, ◌||◌, Some, None, Option, sym, refl, ap, ◌∙◌, arith}
 use Rattle.bridge.proofs.Clocks as bridge
 use Rattle.bridge.proofs.Writing as bridge_writing
 use Rattle.device.specs.Meaning.{Meaning, Laws}
 use Rattle.home.specs.Reactions.{received}
-use Rattle.ordering.specs.Clocks.{Earlier}
 use Rattle.ordering.specs.Operations.{is, is_block}
-use Rattle.ordering.specs.Stamps.{below, stamped}
-use Rattle.ordering.specs.declared.clock.Clock.{Clock}
+use Rattle.ordering.specs.Stamps.{below}
 use Rattle.ordering.specs.declared.operation.Operation.{Operation}
 use Rattle.ordering.specs.declared.operation.Operation.TheVariants.{LdIo, StIo, Int}
 use Rattle.ordering.specs.declared.stamp.Stamp.{Stamp}
@@ -20,8 +18,8 @@ use Rattle.std.proofs.lemmas.Bool.{cond_both, both_ways}
 use Rattle.std.proofs.lemmas.Bool.Decides.{nat_tests}
 use Rattle.trail.specs.declared.entry.Entry.{Entry}
 use Rattle.coherence.proofs.Arising.{Arises, at_processor, at_home, at_first, at_second}
-use Rattle.coherence.proofs.Clocks.{clock_at, Timely}
-use Rattle.coherence.proofs.Dating.{Past, Dated}
+use Rattle.coherence.proofs.Clocks.{Timely}
+use Rattle.coherence.proofs.Dating.{Dated}
 use Rattle.coherence.proofs.HomeClocks.{HomeTimely, home_timely}
 use Rattle.coherence.proofs.Timing.{came_so}
 use Rattle.coherence.specs.Steps.{Effect}
@@ -90,16 +88,7 @@ module _ {A B : Type 0} (ma : Meaning A) (mb : Meaning B) (la : Laws ma) (lb : L
       let at : x.stamp.node ≡ 5 = ap (λ (y : Stamp). y.node) s.0 in
       rw o (let two : x.space ≡ 2 = s.1 in omega arith)
 
--- a stamp in the past of a clock is below the stamp of a later clock of the same node
-past_below : (c d : Clock ℕ) (n : ℕ) (s : Stamp) → Past c s → Earlier c d → below s (stamped d n) ≡ true
-past_below c d n s past (inl up) = let g = past.0 in grind (arith, nat_tests)
-past_below c d n s past (inr up) = let g = past.0 in let l = past.1 in grind (arith, nat_tests)
-
 module _ {A B : Type 0} (w : World A B) (e : Effect A B) (t : Timely w e) where
   -- what a node did before is below what it does now
   pub rises_at_node : (x : Entry) → e.entry ≡ Some x → (f : Entry) → Dated w f → f.stamp.node ≡ x.stamp.node → below f.stamp x.stamp ≡ true
-  rises_at_node x is f past same =
-      let s = t.stamps x is in
-      let at : f.stamp.node ≡ e.node = same ∙ ap (λ (y : Stamp). y.node) s in
-      let old : Past (clock_at w e.node) f.stamp = subst (λ (n : ℕ). Past (clock_at w n) f.stamp) at past in
-      ap (below f.stamp) s ∙ past_below (clock_at w e.node) (clock_at e.next e.node) e.node f.stamp old (t.rises (ap is_some is))
+  rises_at_node x is f past same = grind (arith, nat_tests)

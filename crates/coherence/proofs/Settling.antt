@@ -1,18 +1,17 @@
 -- What is done, and by which clock: a processor's operations on memory, a device's on its own words, its block operations
 -- while nothing is out for the block, and what comes before an operation that starts.
-use Rattle.std.proofs.Common.{◌≡◌, ℕ, ◌+◌, ◌<◌, ◌≤◌, Bool, true, false, cond, ◌&&◌, ◌||◌, eqb, ltb, ◌⊎◌, None, sym, ap, ◌∙◌, subst, inl, inr, arith}
+use Rattle.std.proofs.Common.{◌≡◌, ℕ, ◌+◌, ◌<◌, ◌≤◌, true, false, ◌⊎◌, None, sym, ◌∙◌, subst, inl, inr, arith}
 use Rattle.device.specs.Meaning.{Meaning}
 use Rattle.message.specs.Nodes.{device_node, is_device}
 use Rattle.message.specs.Requests.{out}
 use Rattle.message.specs.declared.figures.Figures.{Figures}
 use Rattle.ordering.specs.Operations.{is, is_block}
 use Rattle.ordering.specs.Orders.{ordered, is_io}
-use Rattle.ordering.specs.declared.operation.Operation.{Operation}
-use Rattle.ordering.specs.declared.operation.Operation.TheVariants.{LdIo, StIo, Int}
+use Rattle.ordering.specs.declared.operation.Operation.TheVariants.{Int}
 use Rattle.ordering.specs.declared.order.Access.{Access}
 use Rattle.ordering.specs.declared.order.Party.{Party}
 use Rattle.ordering.specs.declared.order.Party.TheVariants.{Processor, Device}
-use Rattle.std.proofs.lemmas.Bool.{cases_Bool, and_from, eq-eqb}
+use Rattle.std.proofs.lemmas.Bool.{cases_Bool}
 use Rattle.std.proofs.lemmas.Bool.Decides.{nat_tests}
 use Rattle.trail.specs.declared.entry.Entry.{Entry}
 use Rattle.coherence.proofs.Carrying.{entry_access}
@@ -40,10 +39,7 @@ pub fits_processor : (z : Issued) → z.party < 4 → is_fitting z ≡ true → 
 fits_processor z small fits = grind (arith, nat_tests)
 
 pub fits_device : (z : Issued) → is_device z.party ≡ true → is_fitting z ≡ true → device_issues z.party z.access ≡ true
-fits_device z device fits = go z.party (processor_issues z.access) (device_issues z.party z.access) device fits
-  where
-    go : (n : ℕ) (x y : Bool) → is_device n ≡ true → cond (ltb n 4) x (is_device n && y) ≡ true → y ≡ true
-    go n x y device fits = grind (arith, nat_tests)
+fits_device z device fits = grind (arith, nat_tests)
 
 pub not_io : (a : Access) → processor_issues a ≡ true → is_io a.operation ≡ false → is_memory a.operation ≡ true
 not_io a fits other = grind (arith, nat_tests)
@@ -63,34 +59,16 @@ block_place n a fits block = grind (arith, nat_tests)
 
 -- where what was issued is done
 pub memory_seat : (x : Entry) (a : Access) → entry_access x ≡ a → is_memory a.operation ≡ true → seat x ≡ x.party
-memory_seat x a goes memory = go x.operation (subst (λ (k : Access). is_memory k.operation ≡ true) (sym goes) memory)
-  where
-    go : (o : Operation) → is_memory o ≡ true
-        → cond (is LdIo o || is StIo o) (3 + x.space) (cond (is Int o) x.place (cond (is_block o) (16 + x.place) x.party)) ≡ x.party
-    go o memory = grind (arith, nat_tests)
+memory_seat x a goes memory = grind (arith, nat_tests)
 
 pub io_seat : (x : Entry) (a : Access) → entry_access x ≡ a → is_io a.operation ≡ true → seat x ≡ 3 + a.space
-io_seat x a goes io =
-    let same : x.space ≡ a.space = ap (λ (k : Access). k.space) goes in
-    go x.operation (subst (λ (k : Access). is_io k.operation ≡ true) (sym goes) io) ∙ ap (λ (n : ℕ). 3 + n) same
-  where
-    go : (o : Operation) → is_io o ≡ true
-        → cond (is LdIo o || is StIo o) (3 + x.space) (cond (is Int o) x.place (cond (is_block o) (16 + x.place) x.party)) ≡ 3 + x.space
-    go o io = grind (arith, nat_tests)
+io_seat x a goes io = grind (arith, nat_tests)
 
 pub int_seat : (x : Entry) (a : Access) → entry_access x ≡ a → is Int a.operation ≡ true → seat x ≡ a.place
-int_seat x a goes int =
-    let same : x.place ≡ a.place = ap (λ (k : Access). k.place) goes in
-    go x.operation (subst (λ (k : Access). is Int k.operation ≡ true) (sym goes) int) ∙ same
-  where
-    go : (o : Operation) → is Int o ≡ true
-        → cond (is LdIo o || is StIo o) (3 + x.space) (cond (is Int o) x.place (cond (is_block o) (16 + x.place) x.party)) ≡ x.place
-    go o int = grind (arith, nat_tests)
+int_seat x a goes int = grind (arith, nat_tests)
 
 reached : (d : ℕ) (y : Entry) (a : Access) → entry_access y ≡ a → y.party ≡ device_node d → is_block a.operation ≡ true → reaches d a.place y ≡ true
-reached d y a goes by block =
-    and_from (eqb y.party (device_node d)) _ (eq-eqb _ _ by)
-    (and_from (is_block y.operation) (eqb y.place a.place) (subst (λ (k : Access). is_block k.operation ≡ true) (sym goes) block) (eq-eqb _ _ (ap (λ (k : Access). k.place) goes)))
+reached d y a goes by block = grind (arith, nat_tests)
 
 module _ {A B : Type 0} (ma : Meaning A) (mb : Meaning B) (f : Figures) (h : History A B) (known : Known ma mb f h) (line : InLine h) where
   abbrev w : World A B

@@ -1,5 +1,6 @@
 -- An Exclusive copy is the only one, and no data is on its way while it lasts; and a home that has heard all has nothing asked
 -- on its way, and no Exclusive copy is left.
+use Rattle.std.proofs.lemmas.Bool.Decides.{nat_tests}
 use Rattle.std.proofs.Common.{◌≡◌, ℕ, zero, suc, ◌+◌, ◌≤◌, true, false, length, sym, refl, ap, ◌∙◌, ⊎_elim, arith}
 use Rattle.home.specs.Directories.{round_of}
 use Rattle.home.specs.Sets.{has, is_empty}
@@ -40,23 +41,13 @@ empty_has s four none q =
 module _ (x : Block) (t : Tokens x) where
   module _ (p : ℕ) (is : owned (x.line p) ≡ 1) where
     owner_holds : (exclusive x.home ≡ 1) × (holder x.home p ≡ 1)
-    owner_holds =
-        let own = (t.copies p).owner in
-        let copy = (t.copies p).copy in
-        let sum = copies_add (x.line p) in
-        omega (arith, indicator_most)
+    owner_holds = grind (arith, nat_tests)
 
     others_hold_none : (q : ℕ) → (p ≡ q → ⊥) → holder x.home q ≡ 0
-    others_hold_none q apart =
-        let mine = owner_holds in
-        let one = t.one p q apart in
-        omega arith
+    others_hold_none q apart = grind (arith, nat_tests)
 
     pub sole : (q : ℕ) → (p ≡ q → ⊥) → held (x.line q) ≡ 0
-    sole q apart =
-        let none = others_hold_none q apart in
-        let copy = (t.copies q).copy in
-        omega arith
+    sole q apart = grind (arith, nat_tests)
 
     no_copy_comes : (q : ℕ) → pending x.messages 14 q ≡ 0
     no_copy_comes q = ⊎_elim here there (cases_eq p q)

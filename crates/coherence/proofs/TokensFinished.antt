@@ -1,4 +1,5 @@
 -- Tokens after a home that has heard all does what it was asked for and replies.
+use Rattle.std.proofs.lemmas.Bool.Decides.{nat_tests}
 use Rattle.std.proofs.Common.{◌≡◌, ℕ, ◌+◌, ◌<◌, ◌≤◌, Bool, true, false, cond, ◌&&◌, ◌||◌, eqb, List, [], ◌∷◌, length, None, Option, refl, ap, ◌∙◌, ⊎_elim, arith, length-set}
 use Rattle.home.specs.Directories.{round_of}
 use Rattle.home.specs.Laws.{has_replied}
@@ -62,10 +63,6 @@ given_four : (c : Bool) (s : Processors) (p : ℕ) → length s.at ≡ 4 → len
 given_four true s p four = length-set s.at p true ∙ four
 given_four false s p four = four
 
--- one node of the first four
-one_of_four : (p : ℕ) → p < 4 → indicator (eqb p 0) + indicator (eqb p 1) + indicator (eqb p 2) + indicator (eqb p 3) ≡ 1
-one_of_four p small = grind arith
-
 not_both : (p r q : ℕ) → (r ≡ q → ⊥) → indicator (eqb p r) + indicator (eqb p q) ≤ 1
 not_both p r q apart = grind arith
 
@@ -80,13 +77,7 @@ Side p n o h ms =
     → (4 ≤ p → 5 ≤ n) × (p < 4 → n ≤ 4) × (6 ≤ p → n ≤ 5)
 
 sides : (p : ℕ) (o : Option Kind) (h : Home ℕ) (ms : List (Message ℕ)) (k : Kind) → is_request k ≡ true → Side p (kind_number k) o h ms
-sides p o h ms = by_request (λ n. Side p n o h ms)
-    (λ count self a near. omega (arith, count))
-    (λ count self a near. omega (arith, count))
-    (λ count self a near. omega (arith, count))
-    (λ count self a near. omega (arith, count))
-    (λ count self a near. omega (arith, count))
-    (λ count self a near. omega (arith, count))
+sides p o h ms = grind (arith, nat_tests)
 
 -- What a node's records come to.
 module _ (l : Line) (o : Option Kind) (h h' : Home ℕ) (before now : List (Message ℕ)) (p q : ℕ) where
@@ -148,13 +139,7 @@ device_at p least most = grind arith
 -- The holders after all: with an owner, it is the only one.
 some_holder : (x : ℕ) (h : ℕ → ℕ) (p : ℕ) (k : Kind) → is_request k ≡ true → x ≡ cond (owning (kind_number k)) 1 0
     → ((q : ℕ) → indicator (copying (kind_number k) && eqb p q) ≤ h q) → (kind_number k ≤ 4 → p < 4) → x ≤ h 0 + h 1 + h 2 + h 3
-some_holder x h p = by_request (λ n. x ≡ cond (owning n) 1 0 → ((q : ℕ) → indicator (copying n && eqb p q) ≤ h q) → (n ≤ 4 → p < 4) → x ≤ h 0 + h 1 + h 2 + h 3)
-    (λ is at small. omega arith)
-    (λ is at small. omega (arith, at 0, at 1, at 2, at 3, one_of_four p (small (omega arith))))
-    (λ is at small. omega (arith, at 0, at 1, at 2, at 3, one_of_four p (small (omega arith))))
-    (λ is at small. omega arith)
-    (λ is at small. omega arith)
-    (λ is at small. omega arith)
+some_holder x h p = grind (arith, nat_tests)
 
 module _ (h h' : Home ℕ) (p q r : ℕ) where
   abbrev Lone : ℕ → Type 0
@@ -167,13 +152,7 @@ module _ (h h' : Home ℕ) (p q r : ℕ) where
       → exclusive h' + holder h' q + holder h' r ≤ 2
 
   one_holder : (k : Kind) → is_request k ≡ true → Lone (kind_number k)
-  one_holder = by_request Lone
-      (λ is low serving all most two. omega (arith, all, most, serving, indicator_most))
-      (λ is low serving all most two. omega (arith, all, most, serving, indicator_most))
-      (λ is low serving all most two. omega (arith, all, most, serving, indicator_most))
-      (λ is low serving all most two. omega (arith, all, most, serving, indicator_most))
-      (λ is low serving all most two. omega (arith, all, most, serving, indicator_most))
-      (λ is low serving all most two. omega (arith, all, most, serving, indicator_most))
+  one_holder = grind (arith, nat_tests)
 
 module _ (b : ℕ) (x y : Block) (t : Tokens x) (near : Near x) (g : Finishes b x y) where
   abbrev request : Request

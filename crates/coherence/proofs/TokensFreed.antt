@@ -1,4 +1,5 @@
 -- Tokens after a home gets TAKEN, when no reply is on its way any more.
+use Rattle.std.proofs.lemmas.Bool.Decides.{nat_tests}
 use Rattle.std.proofs.Common.{◌≡◌, ℕ, ◌+◌, ◌≤◌, Bool, true, false, ◌&&◌, eqb, List, sym, refl, ap, ◌∙◌, ⊎_elim, arith}
 use Rattle.home.specs.Directories.{round_of}
 use Rattle.home.specs.Laws.{has_replied}
@@ -6,7 +7,7 @@ use Rattle.home.specs.Reactions.{awaits_taken}
 use Rattle.home.specs.declared.machine.Home.{Home}
 use Rattle.message.specs.Kinds.{kind_number}
 use Rattle.message.specs.declared.message.Message.{Message}
-use Rattle.std.proofs.lemmas.Bool.{and_from, false≢true, and_parts, cases_eq, leb-true, or_cases, both_ways, cases_lt, eq-eqb, eqb-true}
+use Rattle.std.proofs.lemmas.Bool.{and_from, false≢true, both_ways, cases_lt, eq-eqb, eqb-true}
 use Rattle.std.proofs.ByRecursion.{all-has}
 use Rattle.std.specs.List.{ContainsAt as Has, AllByRecursion as All}
 use Rattle.coherence.proofs.Blocks.{Block, all_from_has, hits, pending_is, peer, pending, token}
@@ -33,16 +34,7 @@ no_reply h ms none = all_from_has (TimedReply h) ms (λ m is reply. absurd (omeg
 
 -- a reply is of one of six classes
 pub by_reply : (f : ℕ → ℕ) → f 13 + f 14 + f 15 + f 16 + f 17 + f 42 ≡ 0 → (c : ℕ) → is_reply c ≡ true → f c ≡ 0
-by_reply f none c is = ⊎_elim (λ both. small (leb-true 13 c (and_parts _ _ both).0) (leb-true c 17 (and_parts _ _ both).1))
-    (λ far. ap f (eqb-true c 42 far) ∙ omega arith) (or_cases _ _ is)
-  where
-    at : (n : ℕ) → c ≡ n → f n ≡ 0 → f c ≡ 0
-    at n same zero = ap f same ∙ zero
-
-    small : 13 ≤ c → c ≤ 17 → f c ≡ 0
-    small least most =
-        ⊎_elim (λ e. at 13 e (omega arith)) (λ a. ⊎_elim (λ e. at 14 e (omega arith)) (λ b. ⊎_elim (λ e. at 15 e (omega arith)) (λ d. ⊎_elim (λ e. at 16 e (omega arith))
-        (λ e. at 17 (omega arith) (omega arith)) (cases_eq c 16)) (cases_eq c 15)) (cases_eq c 14)) (cases_eq c 13)
+by_reply f none c is = grind (arith, nat_tests)
 
 -- a home that awaits TAKEN of n has replied to n
 replying : (h : Home ℕ) (n : ℕ) → awaits_taken h.directory n ≡ true → (has_replied h ≡ true) × (gathers h ≡ false) × (eqb (round_of h.directory).request.requester n ≡ true)

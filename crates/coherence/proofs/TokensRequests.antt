@@ -1,12 +1,13 @@
 -- Tokens after a request is sent or refused, or goes back and forth between home and requester.
-use Rattle.std.proofs.Common.{◌≡◌, ℕ, zero, suc, ◌+◌, ◌<◌, ◌≤◌, true, false, eqb, ◌⊎◌, List, [], ◌∷◌, Some, None, Option, refl, ap, ◌∙◌, subst, inl, inr, ⊎_elim, arith}
+use Rattle.std.proofs.lemmas.Bool.Decides.{nat_tests}
+use Rattle.std.proofs.Common.{◌≡◌, ℕ, ◌+◌, ◌<◌, ◌≤◌, true, false, eqb, ◌⊎◌, List, [], ◌∷◌, Some, None, Option, refl, ap, ◌∙◌, inl, inr, ⊎_elim, arith}
 use Rattle.home.specs.declared.machine.Home.{Home}
 use Rattle.message.specs.Kinds.{kind_number, is_request}
 use Rattle.message.specs.declared.kind.Kind.{Kind}
 use Rattle.message.specs.declared.message.Message.{Message}
 use Rattle.processor.specs.Calls.{fits}
 use Rattle.processor.specs.declared.line.Line.{Line}
-use Rattle.std.proofs.lemmas.Bool.{both_ways, leb-true}
+use Rattle.std.proofs.lemmas.Bool.{both_ways}
 use Rattle.coherence.proofs.Blocks.{Block, pending, posted_all, token}
 use Rattle.coherence.proofs.Carrying.{is_block_request}
 use Rattle.coherence.proofs.Classes.{refusal_of}
@@ -18,23 +19,7 @@ use Rattle.coherence.proofs.Tokens.{Tokens, AskedFor, Gathered, Held, held, out_
 
 -- What holds of the numbers 1 to 6 holds of every request's.
 pub by_request : (P : ℕ → Type 0) → P 1 → P 2 → P 3 → P 4 → P 5 → P 6 → (k : Kind) → is_request k ≡ true → P (kind_number k)
-by_request P one two three four five six k is = go (kind_number k) refl
-  where
-    least : 1 ≤ kind_number k
-    least = grind arith
-
-    most : kind_number k ≤ 6
-    most = leb-true (kind_number k) 6 is
-
-    go : (n : ℕ) → n ≡ kind_number k → P (kind_number k)
-    go zero same = absurd (omega (arith, least))
-    go (suc zero) same = subst P same one
-    go (suc (suc zero)) same = subst P same two
-    go (suc (suc (suc zero))) same = subst P same three
-    go (suc (suc (suc (suc zero)))) same = subst P same four
-    go (suc (suc (suc (suc (suc zero))))) same = subst P same five
-    go (suc (suc (suc (suc (suc (suc zero)))))) same = subst P same six
-    go (suc (suc (suc (suc (suc (suc (suc n))))))) same = absurd (omega (arith, most))
+by_request P one two three four five six k is = grind (arith, nat_tests)
 
 fitting : (l : Line) (k : Kind) → fits l k ≡ true → (is_request k ≡ true) × (indicator (eqb (kind_number k) 1) + indicator (eqb (kind_number k) 2) + held l ≤ 1)
     × (indicator (eqb (kind_number k) 5) + indicator (eqb (kind_number k) 6) ≡ 0)

@@ -1,6 +1,6 @@
 -- From the tokens of every block: where a device has nothing out for a block nothing of it is under way, and a waiting WORDS or
 -- DONE has its home's clock.
-use Rattle.std.proofs.Common.{◌≡◌, ℕ, ◌+◌, ◌-◌, ◌<◌, ◌≤◌, Bool, true, false, cond, ◌||◌, ltb, ◌⊎◌, List, [], ◌∷◌, Some, None, filter, Option, sym, refl, ap, ◌∙◌, subst, inl, inr, ⊎_elim, arith}
+use Rattle.std.proofs.Common.{◌≡◌, ℕ, ◌+◌, ◌-◌, ◌<◌, ◌≤◌, Bool, true, false, cond, ◌||◌, ◌⊎◌, List, [], ◌∷◌, Some, None, filter, Option, sym, refl, ap, ◌∙◌, subst, ⊎_elim, arith}
 use Rattle.home.specs.declared.machine.Home.{Home}
 use Rattle.message.proofs.Soundness.{well_formed_are_sound}
 use Rattle.message.specs.Kinds.{same_kind}
@@ -12,7 +12,7 @@ use Rattle.message.specs.declared.kind.Kind.{Kind}
 use Rattle.message.specs.declared.kind.Kind.TheVariants as kind
 use Rattle.message.specs.declared.message.Message.{Message}
 use Rattle.ordering.specs.declared.clock.Clock.{Clock}
-use Rattle.std.proofs.lemmas.Bool.{and_from, both_ways, cases_Bool, eq-eqb, le-ltb, ltb-false, ltb-true, ne_eqb}
+use Rattle.std.proofs.lemmas.Bool.{and_from, both_ways, cases_Bool, eq-eqb, le-ltb, ne_eqb}
 use Rattle.std.proofs.lemmas.Bool.Decides.{nat_tests}
 use Rattle.std.specs.List.{AllByRecursion as All, slice_get}
 use Rattle.coherence.proofs.Arrivals.{counted_about}
@@ -51,17 +51,7 @@ kept_passes P t (x ∷ xs) all = go (t x) refl all (kept_passes P t xs)
 module _ {A B : Type 0} (w : World A B) (tokens : (b : ℕ) → b < 16 → Tokens (block b w)) where
   -- what a device has out, seen as a node's
   out_seen : (d b : ℕ) → d < 2 → out (requests_at w d) b ≡ None → request_out w b (device_node d) ≡ None
-  out_seen d b two none = go (cases_Bool (ltb d 1))
-    where
-      go : (ltb d 1 ≡ true) ⊎ (ltb d 1 ≡ false) → request_out w b (device_node d) ≡ None
-      go (inl first) =
-          let lt = ltb-true d 1 first in
-          let zero : d ≡ 0 = omega arith in
-          subst (λ (n : ℕ). request_out w b (device_node n) ≡ None) (sym zero) (subst (λ (n : ℕ). out (requests_at w n) b ≡ None) zero none)
-      go (inr second) =
-          let le = ltb-false d 1 second in
-          let one : d ≡ 1 = omega arith in
-          subst (λ (n : ℕ). request_out w b (device_node n) ≡ None) (sym one) (subst (λ (n : ℕ). out (requests_at w n) b ≡ None) one none)
+  out_seen d b two none = grind (arith, nat_tests)
 
   module _ (d b : ℕ) (two : d < 2) (low : b < 16) (none : out (requests_at w d) b ≡ None) where
     nothing : (k : ℕ) → out_is (request_out w b (device_node d)) k ≡ 0

@@ -6,11 +6,10 @@ use Rattle.home.specs.Reactions.{clock_after, entry_for, reply, words_after}
 use Rattle.home.specs.Requests.{carries_words, operation_for}
 use Rattle.home.specs.declared.machine.Home.{Home}
 use Rattle.home.specs.declared.request.Request.{Request}
-use Rattle.message.proofs.Numbering.{numbers_tell_kinds}
 use Rattle.message.specs.Kinds.{same_kind}
 use Rattle.message.specs.Nodes.{home_node}
 use Rattle.message.specs.declared.kind.Kind.{Kind}
-use Rattle.message.specs.declared.kind.Kind.TheVariants.{Rblk, Wblk}
+use Rattle.message.specs.declared.kind.Kind.TheVariants.{Wblk}
 use Rattle.ordering.specs.Stamps.{stamped}
 use Rattle.ordering.specs.Words.{no_words}
 use Rattle.ordering.specs.declared.clock.Clock.{Clock}
@@ -20,7 +19,7 @@ use Rattle.ordering.specs.declared.operation.Words.{Words}
 use Rattle.processor.specs.Lines.{held_words}
 use Rattle.std.proofs.ByRecursion.{All-weaker}
 use Rattle.std.proofs.lemmas.List.{append-nil}
-use Rattle.std.proofs.lemmas.Bool.{cases_Bool, cond_both, cond-false, cond-true, eq-eqb, ltb-true}
+use Rattle.std.proofs.lemmas.Bool.{cond_both, cond-false, cond-true, eq-eqb, ltb-true}
 use Rattle.std.proofs.lemmas.Bool.Decides.{nat_tests}
 use Rattle.std.specs.Option.{option_to_list}
 use Rattle.std.specs.List.{AllByRecursion as All}
@@ -33,7 +32,6 @@ use Rattle.coherence.proofs.Counting.{indicator}
 use Rattle.coherence.proofs.DeviceWords.{address}
 use Rattle.coherence.proofs.Moves.{Finishes}
 use Rattle.coherence.proofs.Reading.{Reads, current, current_written, no_read}
-use Rattle.coherence.proofs.Shifts.{apart}
 use Rattle.coherence.proofs.Sole.{empty_has, none_asked, none_owned}
 use Rattle.coherence.proofs.Tokens.{Tokens, awaited, gathering, held, lowers, serving}
 use Rattle.coherence.proofs.Values.{Bare, Data, Four, Says, Values, bare_data, carries, now, says_still}
@@ -46,12 +44,7 @@ Does k =
     ⊎ (((operation_for k ≡ Some LdBlk) × (same_kind k Wblk ≡ false)) ⊎ ((operation_for k ≡ Some StBlk) × (k ≡ Wblk)))
 
 does : (k : Kind) → Does k
-does k = go (cases_Bool (same_kind k Wblk)) (cases_Bool (same_kind k Rblk))
-  where
-    go : (same_kind k Wblk ≡ true) ⊎ (same_kind k Wblk ≡ false) → (same_kind k Rblk ≡ true) ⊎ (same_kind k Rblk ≡ false) → Does k
-    go (inl writes) _ = let is : k ≡ Wblk = numbers_tell_kinds k Wblk writes in inr (inr (ap operation_for is, is))
-    go (inr other) (inl reads) = inr (inl (rw reads refl, other))
-    go (inr other) (inr neither) = inl (rw (neither, other) refl, other)
+does k = grind (arith, nat_tests)
 
 -- The entry of a block operation.
 abbrev block_entry : ℕ → Request → Words → Clock ℕ → Operation → Entry
@@ -132,11 +125,7 @@ module _ (b : ℕ) (start : Address → ℕ) (x y : Block) (t : Tokens x) (v : V
         omega (arith, busy)
 
     no_data : (q : ℕ) → (pending x.messages 13 q ≡ 0) × (pending x.messages 14 q ≡ 0) × (pending x.messages 41 q ≡ 0)
-    no_data q =
-        let replies = (t.asked q).reply in
-        let none = apart x.home q in
-        let back = (none_asked x t g.heard q).3 in
-        (omega (arith, busy), omega (arith, busy), back)
+    no_data q = grind (arith, nat_tests)
 
   record Then : Type 0 where
     pub home : Says (now b start y.trail) words
