@@ -7,11 +7,12 @@ ghost use Rattle.bridge.specs.States.{view};
 
 use crate::fault::DeviceFault;
 use crate::plan::{Deed, Plan, WordAccess};
-use crate::state::{Bridge, device_node};
+use crate::state::Bridge;
 use device::meaning::Device;
 use message::block::Block;
 use message::kind::Kind;
 use message::message::Message;
+use message::node::device_node;
 use message::requests::Requests;
 use ordering::clock::Clock;
 use ordering::operation::{Operation, Words};

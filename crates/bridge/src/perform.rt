@@ -6,10 +6,11 @@ ghost use Rattle.bridge.specs.Deeds.{access_entry, outcome_of, loaded, stored, a
 ghost use Rattle.bridge.specs.States.{view};
 
 use crate::plan::{Deed, Plan, WordAccess};
-use crate::state::{Bridge, device_node};
+use crate::state::Bridge;
 use device::meaning::Device;
 use message::kind::Kind;
 use message::message::Message;
+use message::node::device_node;
 use message::reaction::Reaction;
 use ordering::clock::Clock;
 use ordering::operation::{Operation, Words};

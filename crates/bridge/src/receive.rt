@@ -6,10 +6,11 @@ ghost use Rattle.bridge.specs.Receipts.{answering, asked_access, asked, replied,
 ghost use Rattle.bridge.specs.States.{view};
 
 use crate::plan::{Deed, Plan, WordAccess};
-use crate::state::{Bridge, device_node};
+use crate::state::Bridge;
 use device::meaning::Device;
 use message::kind::Kind;
 use message::message::Message;
+use message::node::device_node;
 use ordering::clock::Clock;
 
 fn asked_access(message: Message<u32>) -> WordAccess

@@ -2,17 +2,10 @@
 
 ghost use Rattle.std.specs.Prelude.{◌≡◌};
 ghost use Rattle.bridge.specs.States.{made};
-ghost use Rattle.message.specs.Nodes.{device_node};
 
 use message::requests::Requests;
 use message::table::Table;
 use ordering::clock::Clock;
-
-pub(crate) fn device_node(number: u8) -> u32
-    ensures { result ≡ device_node number }
-{
-    4 + u32::from(number)
-}
 
 #[derive(Drop)]
 pub struct Bridge<D, N = u32> {

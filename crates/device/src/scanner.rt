@@ -23,12 +23,7 @@ fn row_from(word: u32) -> Words
     ensures { result ≡ row_from word }
 {
     Words {
-        at: [
-            word,
-            word.wrapping_add(1),
-            word.wrapping_add(2),
-            word.wrapping_add(3),
-        ],
+        at: [0, 1, 2, 3].map(|step| word.wrapping_add(step)),
     }
 }
 

@@ -8,8 +8,8 @@ ghost use Rattle.device.specs.Showing.{window_laws, window_four_words};
 use crate::meaning::{Device, NoWord, Wish, Wishing};
 use ordering::operation::{Operation, Words};
 
-/// Where a word stands that the window does not show: past the words of any device.
 // By rule the wish of a hidden word goes out with a place, so it is a number and no `None`.
+/// Where a word stands that the window does not show: past the words of any device.
 const NOT_SHOWN: u32 = 64;
 
 #[derive(Drop)]

@@ -29,7 +29,7 @@ pub enum Phase {
 #[derive(Clone, Copy)]
 pub struct Directory {
     pub holders: Processors,
-    // By rule a bit beside the presence bits.
+    // A bit beside the presence bits: it falls alone where an owner keeps a shared copy.
     pub exclusive: bool,
     pub phase: Phase,
 }

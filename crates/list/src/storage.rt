@@ -22,7 +22,7 @@ impl<'a, T> Model for List<'a, T> {
 }
 
 /// A list has no free place.
-#[derive(Clone, Copy, PartialEq, Eq, Debug)]
+#[derive(Clone, Copy, Debug, PartialEq, Eq)]
 pub struct Full {
     pub capacity: usize,
 }

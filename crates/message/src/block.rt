@@ -22,6 +22,7 @@ impl Model for Block {
 }
 
 impl Block {
+    // Not a `TryFrom`: of a number that is no block's, nobody asks why.
     /// None from 16 up.
     pub fn new(number: u32) -> Option<Block>
         ensures { result ≡ cond (nat_lt number 16) (Some number) None }

@@ -3,6 +3,7 @@
 ghost use Rattle.std.specs.Prelude.{◌≡◌, ◌≤◌, true};
 ghost use Rattle.message.specs.Checks.{has_processor, word_count, end_fits, rest_is_zero, all_are_zero, words_fit, numbers_fit, fits, checked};
 
+use crate::block::Block;
 use crate::form::{End, Fill, Form, Numbers};
 use crate::message::Message;
 use crate::node::is_device;
@@ -42,7 +43,7 @@ impl Figures {
             End::Processor => self.has_processor(node),
             End::Device => is_device(node),
             End::Requester => self.has_processor(node) || is_device(node),
-            End::Home => place < 16 && node == 16 + place,
+            End::Home => Block::new(place).is_some_and(|block| node == block.home()),
             End::Owner => place < self.word_count(node),
             End::Target => self.has_processor(node) && node == place,
         }
@@ -62,6 +63,7 @@ fn all_are_zero(words: Words) -> bool
 }
 
 impl Fill {
+    // By rule the mark is a field beside the words.
     fn allows(self, mark: bool, words: Words) -> bool
         ensures { result ≡ words_fit self mark words }
     {
@@ -101,6 +103,7 @@ impl Message {
             && form.numbers.allow(self.clock, self.sequence)
     }
 
+    // Field by field, since a structure's update cannot change the clock's type.
     /// The same message with its clock at rest, if it is well formed on such a board.
     pub fn checked(self, figures: Figures) -> Option<Message<u32>>
         ensures { result ≡ checked figures self }

@@ -1,7 +1,7 @@
 //! Node numbers: 0 to 3 are processors, 4 and 5 the devices, and 16 + b is the home of block b.
 
 ghost use Rattle.std.specs.Prelude.{◌≡◌};
-ghost use Rattle.message.specs.Nodes.{node_numbered, is_processor, is_device};
+ghost use Rattle.message.specs.Nodes.{device_node, node_numbered, is_processor, is_device};
 
 #[derive(Clone, Copy, Debug, PartialEq, Eq)]
 pub enum Node {
@@ -24,6 +24,13 @@ impl Node {
             _ => None,
         }
     }
+}
+
+/// The node of a device; a narrow number, so that the node's can always be had.
+pub fn device_node(number: u8) -> u32
+    ensures { result ≡ device_node number }
+{
+    4 + u32::from(number)
 }
 
 pub fn is_processor(node: u32) -> bool

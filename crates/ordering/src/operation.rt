@@ -37,6 +37,7 @@ impl Operation {
         matches!(self, Operation::LdBlk | Operation::StBlk)
     }
 
+    /// The text of its display.
     pub fn name(self) -> &'static str
         ensures { result.now ≡ name_of self }
     {

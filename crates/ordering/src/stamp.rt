@@ -25,6 +25,7 @@ impl Stamp {
         }
     }
 
+    /// The word of the rules for `<`.
     pub fn is_below(self, other: Stamp) -> bool
         ensures { result ≡ below self other }
     {

@@ -23,6 +23,7 @@ use device::meaning::Device;
 use home::machine::Home;
 use list::List;
 use message::message::Message;
+use message::node::device_node;
 use message::reaction::Reaction;
 use ordering::clock::Settle;
 use processor::state::Processor;
@@ -45,7 +46,7 @@ fn fitting(
         plan.deed.sends(),
         plan.deed.enters(),
     )?;
-    let node = 4 + u32::from(number);
+    let node = device_node(number);
     Ok(plan.settled().ok_or(BoardFault::NumberEnds(node))?)
 }
 

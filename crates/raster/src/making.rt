@@ -28,14 +28,9 @@ fn block_words(words: &[u32], block: usize) -> Words
     requires { block < 16 }
     ensures { result ≡ block_words words.now block }
 {
-    let place = 4 * block;
-    let at = [
-        word_at(words, place),
-        word_at(words, place + 1),
-        word_at(words, place + 2),
-        word_at(words, place + 3),
-    ];
-    Words { at }
+    Words {
+        at: [0, 1, 2, 3].map(|step| word_at(words, 4 * block + step)),
+    }
 }
 
 fn homes_from(words: &[u32], clock: u32) -> [Home; 16]

@@ -23,7 +23,7 @@ fn waiting(messages: &List<Message>, taken: Option<usize>) -> usize
     }
 }
 
-// Whether there is room for so many messages and entries, once the message at `taken` is out.
+// Whether there is room for so many messages, and for an entry if one comes, once the message at `taken` is out.
 pub(crate) fn check_room(
     messages: &List<Message>,
     trail: &List<Entry>,

@@ -26,6 +26,7 @@ fn report(rt: &impl Print, done: Result<(), NoWord>) -> io::Result<()> {
 
 // Shows and accepts up to `most` wishes.
 fn play<D: Device>(rt: &impl Print, device: &mut D, most: u32) -> io::Result<()> {
+    // A count of turns, since a device may wish without end.
     for _ in 0..most {
         let Some(wish) = device.wish() else {
             return println!(rt; "  no wish");
