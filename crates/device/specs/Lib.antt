@@ -1,3 +1,4 @@
+pub mod Cases
 pub mod Courses
 pub mod Events
 pub mod Meaning

@@ -2,6 +2,7 @@
 //! The functions do nothing; what they promise is proved.
 
 ghost use Rattle.std.specs.Prelude.{◌≡◌};
+ghost use Rattle.device.specs.Cases.{WorkedSweeps};
 ghost use Rattle.device.specs.Courses.{PlateSetterSweeps, ScannerSweeps, WindowedPlateSetterSweeps};
 ghost use Rattle.device.specs.Events.{WordsAsWritten};
 ghost use Rattle.device.specs.Plates.{plate_meaning};
@@ -39,4 +40,9 @@ pub fn scanner_sweeps()
 pub fn windowed_plate_setter_sweeps()
     ensures meant { ⟦<Window<PlateSetter> as Device>⟧.meaning ≡ window_meaning plate_meaning }
     ensures sweeps { WindowedPlateSetterSweeps }
+{}
+
+/// Sweeps that are told by the places of the words come out wish by wish.
+pub fn worked_sweeps_come_out()
+    ensures { WorkedSweeps }
 {}

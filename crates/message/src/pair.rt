@@ -23,6 +23,7 @@ fn goes_alike(first: Message, second: Message) -> bool
 fn first_alike(messages: &[Message], message: Message) -> Option<usize>
     ensures { result ≡ first_alike message messages.now 0 }
 {
+    // Not by `position`: what it says would need another function between.
     for (place, other) in messages.iter().enumerate() {
         if goes_alike(*other, message) {
             return Some(place);

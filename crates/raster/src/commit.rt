@@ -73,6 +73,7 @@ fn commit_reaction<W: Settle>(
     Ok(rest)
 }
 
+// Of what a plan leads to, a commit needs no more than this.
 #[tactic(auto, unfolding(crate::specs::Fitting::planned))]
 fn perform<D: Device>(bridge: &mut Bridge<D>, number: u8, plan: Plan) -> Outcome
     ensures exit { view D.Device.state bridge.new ≡ (planned D.Device.meaning number (view D.Device.state bridge.old) plan).next }
@@ -100,6 +101,7 @@ pub(crate) fn commit_plan<D: Device>(
 }
 
 impl<A: Device, B: Device> Board<A, B> {
+    // Beside `commit_home`, since the two lie in different tables.
     /// `taken` is the place of the message that the processor reacts to, if it reacts to one.
     pub(crate) fn commit_processor(
         &mut self,

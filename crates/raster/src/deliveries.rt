@@ -91,6 +91,7 @@ impl<A: Device, B: Device> Board<A, B> {
         message.checked(self.figures())
     }
 
+    // Beside `reach_home`, since the two lie in different tables.
     fn reach_processor(
         &mut self,
         messages: &mut List<Message>,

@@ -50,6 +50,7 @@ fn send_all(messages: &mut List<Message>, outbox: Outbox)
     ensures contents { contents messages.new ≡ contents messages.old ++ sent outbox }
     ensures capacity { room messages.new ≡ room messages.old }
 {
+    // Not by `flatten`: by the places, of which the loop's invariant speaks.
     for message in &outbox.at {
         if let Some(message) = message {
             let _ = messages.push(*message);
