@@ -37,8 +37,8 @@ fn act_at<D: Device>(
 }
 
 impl<A: Device, B: Device> Board<A, B> {
-    #[tactic(auto, using(crate::proofs::Lifting::first_wish, crate::proofs::Lifting::second_wish))]
     /// Does the wish of a device.
+    #[tactic(auto, using(crate::proofs::Lifting::first_wish, crate::proofs::Lifting::second_wish))]
     pub fn act(
         &mut self,
         messages: &mut List<Message>,

@@ -16,8 +16,8 @@ use message::message::Message;
 use trail::entry::Entry;
 
 impl<A: Device, B: Device> Board<A, B> {
-    #[tactic(auto, using(crate::proofs::Turns::overlaid_none))]
     /// Makes the calls in turn. As many answers are given as there are calls and places for them.
+    #[tactic(auto, using(crate::proofs::Turns::overlaid_none))]
     pub fn call_all(
         &mut self,
         messages: &mut List<Message>,
