@@ -28,8 +28,9 @@ fn block_words(words: &[u32], block: usize) -> Words
     requires { block < 16 }
     ensures { result ≡ block_words words.now block }
 {
+    let first = 4 * block;
     Words {
-        at: [0, 1, 2, 3].map(|step| word_at(words, 4 * block + step)),
+        at: [first, first + 1, first + 2, first + 3].map(|place| word_at(words, place)),
     }
 }
 
