@@ -7,6 +7,7 @@ use message::message::Message;
 use ordering::clock::{Clock, Settle, settled_next};
 use ordering::operation::Words;
 
+// The party is a node's number, as in an entry.
 /// An operation at one of the device's words: who asked for it, its number there, and the word.
 #[derive(Clone, Copy)]
 pub struct WordAccess {

@@ -87,6 +87,7 @@ impl<A: Device, B: Device> Board<A, B> {
         Ok(())
     }
 
+    // By rule any number may be given for the kind.
     /// Asks the home of a block for GETS, GETX, UPG or WB: kinds 1 to 4.
     pub fn request(
         &mut self,
