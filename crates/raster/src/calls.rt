@@ -25,59 +25,48 @@ impl<A: Device, B: Device> Board<A, B> {
     ) -> Result<Option<u32>, Fault>
         ensures { (result, world A.Device.state B.Device.state self.new messages.new trail.new) ≡ step A.Device.meaning B.Device.meaning call (world A.Device.state B.Device.state self.old messages.old trail.old) }
     {
-        let told = match call {
-            Call::Load { processor, word } => Some(self.load(messages, trail, processor, word)?),
+        match call {
+            Call::Load { processor, word } => self.load(messages, trail, processor, word).map(Some),
             Call::Store {
                 processor,
                 word,
                 value,
-            } => {
-                self.store(messages, trail, processor, word, value)?;
-                None
-            }
+            } => self
+                .store(messages, trail, processor, word, value)
+                .map(|()| None),
             Call::Request {
                 processor,
                 block,
                 kind,
-            } => {
-                self.request(messages, trail, processor, block, kind)?;
-                None
-            }
+            } => self
+                .request(messages, trail, processor, block, kind)
+                .map(|()| None),
             Call::LdIo {
                 processor,
                 device,
                 word,
-            } => {
-                self.ldio(messages, trail, processor, device, word)?;
-                None
-            }
+            } => self
+                .ldio(messages, trail, processor, device, word)
+                .map(|()| None),
             Call::StIo {
                 processor,
                 device,
                 word,
                 value,
-            } => {
-                self.stio(messages, trail, processor, device, word, value)?;
-                None
-            }
+            } => self
+                .stio(messages, trail, processor, device, word, value)
+                .map(|()| None),
             Call::Collect { processor, device } => {
-                Some(self.collect(messages, trail, processor, device)?)
+                self.collect(messages, trail, processor, device).map(Some)
             }
             Call::GiveUp { processor, device } => {
-                self.give_up(messages, trail, processor, device)?;
-                None
+                self.give_up(messages, trail, processor, device)
+                    .map(|()| None)
             }
-            Call::Act { device } => {
-                self.act(messages, trail, device)?;
-                None
-            }
-            Call::Deliver { place } => {
-                self.deliver(messages, trail, place)?;
-                None
-            }
-            Call::Poll { processor } => self.poll(messages, trail, processor)?,
-        };
-        Ok(told)
+            Call::Act { device } => self.act(messages, trail, device).map(|()| None),
+            Call::Deliver { place } => self.deliver(messages, trail, place).map(|()| None),
+            Call::Poll { processor } => self.poll(messages, trail, processor),
+        }
     }
 
     /// Where a word of a read entry came from: the entry and its value, or none where no write came before.

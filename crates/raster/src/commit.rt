@@ -1,5 +1,5 @@
 //! Committing a reaction: where both lists have room and all numbers are within their end, the node, the lists and the
-//! answer change together; else nothing does.
+//! answer change together; else nothing does. Contracts tell records and rooms apart, as a world holds them.
 
 ghost use Rattle.std.specs.Prelude.{◌≡◌, ◌+◌, ◌<◌, ◌≤◌, length, IfOk, if◌then◌else◌};
 ghost use Rattle.bridge.specs.Deeds.{outcome_of};

@@ -24,6 +24,7 @@ fn word_at(words: &[u32], place: usize) -> u32
     words.get(place).copied().unwrap_or(0)
 }
 
+// A place in memory, and so no `Block`.
 fn block_words(words: &[u32], block: usize) -> Words
     requires { block < 16 }
     ensures { result ≡ block_words words.now block }
