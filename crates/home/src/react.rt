@@ -55,15 +55,11 @@ impl Request {
         ensures { result ≡ nack block self }
     {
         Message {
-            kind: Kind::Nack,
-            sender: block.home(),
-            receiver: self.requester,
-            place: block.number(),
             words: self.words,
             clock: u64::from(self.clock),
             sequence: self.sequence,
-            exclusive: false,
             refused: Some(self.kind),
+            ..Message::plain(Kind::Nack, block.home(), self.requester, block.number())
         }
     }
 }
