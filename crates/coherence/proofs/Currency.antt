@@ -5,7 +5,7 @@ use Rattle.bridge.proofs.Clocks as bridge
 use Rattle.bridge.proofs.Writing as bridge_writing
 use Rattle.bridge.specs.Inputs as bridge_input
 use Rattle.bridge.specs.declared.state.Bridge.{Bridge}
-use Rattle.device.specs.Meaning.{Meaning}
+use Rattle.device.specs.Meaning.{Meaning, Laws}
 use Rattle.home.specs.Reactions.{received}
 use Rattle.message.specs.declared.figures.Figures.{Figures}
 use Rattle.message.specs.declared.reaction.Reaction.{Reaction}
@@ -49,7 +49,6 @@ use Rattle.coherence.proofs.TokensKept.{near_block, tokens_moved}
 use Rattle.coherence.proofs.Tracking.{kept_passes}
 use Rattle.coherence.proofs.Values.{Values}
 use Rattle.coherence.proofs.ValuesKept.{values_moved, values_read}
-use Rattle.coherence.proofs.Wishes.{Lawful}
 use Rattle.coherence.specs.Makings.{Making}
 use Rattle.coherence.specs.Promise.{at_making}
 use Rattle.coherence.specs.Steps.{Effect, by_first, by_second, waiting}
@@ -62,7 +61,7 @@ record Good (b : ℕ) (start : Address → ℕ) (x : Block) : Type 0 where
   bounds : Bounds x
   values : Values b start x
 
-module _ {A B : Type 0} (ma : Meaning A) (mb : Meaning B) (la : Lawful ma) (lb : Lawful mb) (start : Address → ℕ) (f : Figures) (w : World A B)
+module _ {A B : Type 0} (ma : Meaning A) (mb : Meaning B) (la : Laws ma) (lb : Laws mb) (start : Address → ℕ) (f : Figures) (w : World A B)
     (fit : w.fit ≡ true) (kept : Kept ma mb f w) (values : (b : ℕ) → b < 16 → Values b start (block b w)) (c : Call) (e : Effect A B) (meeting : Meets ma mb w c e)
     (x : Entry) (is : e.entry ≡ Some x) where
   -- an entry on memory comes by a move of its block
@@ -94,7 +93,7 @@ module _ {A B : Type 0} (ma : Meaning A) (mb : Meaning B) (la : Lawful ma) (lb :
 
   module _ (arises : Arises ma mb w e) (time : Timely w e) (dated : All (Dated w) w.trail) (places : All Placed w.trail) where
     new : Placed x
-    new = placed ma mb la.laws lb.laws w e arises x is
+    new = placed ma mb la lb w e arises x is
 
     rises : (g : Entry) → Has w.trail g → Rises g x
     rises g has conflict = go (cases_eq g.stamp.node x.stamp.node)
@@ -130,8 +129,8 @@ device_reads now d ws x space io loaded stands read n has = grind (arith, nat_te
 memory_reads : (x : Entry) → Spaced x → (is LdIo x.operation || is StIo x.operation) ≡ false → is_read x.operation ≡ true → x.space ≡ 0
 memory_reads x spaced io read = grind (arith, nat_tests)
 
-module _ {A B : Type 0} (ma : Meaning A) (mb : Meaning B) (la : Lawful ma) (lb : Lawful mb) (k : Making A B) (f : Figures) (w : World A B)
-    (fit : w.fit ≡ true) (kept : Kept ma mb f w) (values : (b : ℕ) → b < 16 → Values b (at_making ma mb k) (block b w)) (mirrored : Mirrored ma mb la.laws lb.laws k w)
+module _ {A B : Type 0} (ma : Meaning A) (mb : Meaning B) (la : Laws ma) (lb : Laws mb) (k : Making A B) (f : Figures) (w : World A B)
+    (fit : w.fit ≡ true) (kept : Kept ma mb f w) (values : (b : ℕ) → b < 16 → Values b (at_making ma mb k) (block b w)) (mirrored : Mirrored ma mb la lb k w)
     (c : Call) (e : Effect A B) (meeting : Meets ma mb w c e) (arises : Arises ma mb w e) (x : Entry) (is : e.entry ≡ Some x) where
   abbrev now : Address → ℕ
   now = current (at_making ma mb k) w.trail
@@ -144,14 +143,14 @@ module _ {A B : Type 0} (ma : Meaning A) (mb : Meaning B) (la : Lawful ma) (lb :
   at_first_device : (i : bridge_input.Input) (r : Reaction (Bridge A ℕ)) → bridge_input.reaction ma 0 w.first i ≡ Some r → e ≡ by_first w r → Reads now x
   at_first_device i r h by =
       let j : r.entry ≡ Some x = sym (ap (λ (y : Effect A B). y.entry) by) ∙ is in
-      let law = bridge_writing.only_stores_write ma la.laws in
+      let law = bridge_writing.only_stores_write ma la in
       device_reads now 0 (ma.words w.first.device) x ((bridge.entries_are_stamped ma).stamps w.first 0 i r h x j).1 (law.places w.first 0 i r h x j).0 (law.loads w.first 0 i r h x j)
       (mirrored.first x.place)
 
   at_second_device : (i : bridge_input.Input) (r : Reaction (Bridge B ℕ)) → bridge_input.reaction mb 1 w.second i ≡ Some r → e ≡ by_second w r → Reads now x
   at_second_device i r h by =
       let j : r.entry ≡ Some x = sym (ap (λ (y : Effect A B). y.entry) by) ∙ is in
-      let law = bridge_writing.only_stores_write mb lb.laws in
+      let law = bridge_writing.only_stores_write mb lb in
       device_reads now 1 (mb.words w.second.device) x ((bridge.entries_are_stamped mb).stamps w.second 1 i r h x j).1 (law.places w.second 1 i r h x j).0 (law.loads w.second 1 i r h x j)
       (mirrored.second x.place)
 
@@ -159,7 +158,7 @@ module _ {A B : Type 0} (ma : Meaning A) (mb : Meaning B) (la : Lawful ma) (lb :
   reads_now = go arises
     where
       spaced : Spaced x
-      spaced = (placed ma mb la.laws lb.laws w e arises x is).spaced
+      spaced = (placed ma mb la lb w e arises x is).spaced
 
       go : Arises ma mb w e → Reads now x
       go (at_first i r h by) = at_first_device i r h by

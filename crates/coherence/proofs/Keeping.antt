@@ -1,7 +1,7 @@
 -- Over every run, block by block: the tokens, and the bounds of the entries. So every waiting message has a rule.
 use Rattle.std.proofs.Common.{◌≡◌, ℕ, ◌<◌, true, List, length, sym, refl, ap, ◌∙◌, subst, inl}
 use Rattle.bridge.specs.Inputs as bridge
-use Rattle.device.specs.Meaning.{Meaning}
+use Rattle.device.specs.Meaning.{Meaning, Laws}
 use Rattle.message.specs.declared.figures.Figures.{Figures}
 use Rattle.message.specs.declared.message.Message.{Message}
 use Rattle.coherence.proofs.Blocks.{Block, block}
@@ -17,7 +17,6 @@ use Rattle.coherence.proofs.Tables.{bridge_requests_stay}
 use Rattle.coherence.proofs.Tokens.{Tokens}
 use Rattle.coherence.proofs.TokensFinished.{Near}
 use Rattle.coherence.proofs.TokensKept.{near_block, tokens_after, tokens_made, tokens_moved}
-use Rattle.coherence.proofs.Wishes.{Lawful}
 use Rattle.coherence.specs.Makings.{Making, make}
 use Rattle.coherence.specs.Steps.{Effect, figures, step, waiting}
 use Rattle.coherence.specs.Worlds.{World}
@@ -66,10 +65,10 @@ module _ {A B : Type 0} (ma : Meaning A) (mb : Meaning B) where
   second_kept w ms c e (to_first m r way h is) = ap (λ (x : Effect A B). length x.next.second.requests.at) is
   second_kept w ms c e (to_second m r way h is) = ap (λ (x : Effect A B). length x.next.second.requests.at) is ∙ bridge_requests_stay mb w.second 1 (bridge.Receive m) r h
 
-  module _ (la : Lawful ma) (lb : Lawful mb) where
+  module _ (la : Laws ma) (lb : Laws mb) where
     pub kept_kept : (f : Figures) (c : Call) (w : World A B) → Kept f w → Kept f (step ma mb c w).1
     kept_kept f c w k = record {
-      formed = formed_kept ma mb la.laws lb.laws f c w k.formed;
+      formed = formed_kept ma mb la lb f c w k.formed;
       tabled = steps ma mb Tabled c w k.tabled (λ e fit is within. tabled_kept ma mb w k.formed.shape (k.formed.shape.few fit) c e (meets ma mb w c e is) k.tabled (waiting ma mb c w));
       first = steps ma mb (λ v. length v.first.requests.at ≡ 16) c w k.first (λ e fit is within. first_kept w (waiting ma mb c w) c e (meets ma mb w c e is) ∙ k.first);
       second = steps ma mb (λ v. length v.second.requests.at ≡ 16) c w k.second (λ e fit is within. second_kept w (waiting ma mb c w) c e (meets ma mb w c e is) ∙ k.second);
@@ -81,7 +80,7 @@ module _ {A B : Type 0} (ma : Meaning A) (mb : Meaning B) where
 
     pub kept_made : (k : Making A B) → Kept (figures ma mb (make ma mb k)) (make ma mb k)
     kept_made k = record {
-      formed = formed_made ma mb la.laws lb.laws k;
+      formed = formed_made ma mb la lb k;
       tabled = tabled_made ma mb k;
       first = refl;
       second = refl;

@@ -111,4 +111,3 @@ pub mod ValuesKept
 pub mod ValuesOperations
 pub mod ValuesQuiet
 pub mod Whereabouts
-pub mod Wishes

@@ -4,7 +4,7 @@ use Rattle.bridge.specs.Inputs.{Input, Act, Receive, reaction}
 use Rattle.bridge.specs.Acts.{wish_message}
 use Rattle.bridge.specs.Receipts.{again}
 use Rattle.bridge.specs.declared.state.Bridge.{Bridge}
-use Rattle.device.specs.Meaning.{Meaning}
+use Rattle.device.specs.Meaning.{Meaning, Laws}
 use Rattle.list.specs.Contents.{removed}
 use Rattle.message.specs.Kinds.{kind_number, is_request}
 use Rattle.message.specs.Laws.{goes_home, comes_from_home}
@@ -31,7 +31,6 @@ use Rattle.coherence.proofs.MovesDeliveries.{nack_token}
 use Rattle.coherence.proofs.MovesWishes as wishes
 use Rattle.coherence.proofs.Posts.{kept_added, kept_one, kept_not, kept_still, posted_call, posted_delivery}
 use Rattle.coherence.proofs.Shifts.{put_same}
-use Rattle.coherence.proofs.Wishes.{Lawful}
 
 -- a block request by its class
 request_token : (k : Kind) (n h b c q : ℕ) (ws : Words) → is_block_request k ≡ true
@@ -67,7 +66,7 @@ module _ (b : ℕ) (low : b < 16) (x y : Block) (n : ℕ) (device : 4 ≤ n) (tw
     })
 
     -- its device's wish
-    pub wish_moves : Lawful m → (ps : ℕ) → reaction m d br (Act ps) ≡ Some r → y.messages ≡ filter (about b) (messages ++ sent r.sent) → Moves b x y
+    pub wish_moves : Laws m → (ps : ℕ) → reaction m d br (Act ps) ≡ Some r → y.messages ≡ filter (about b) (messages ++ sent r.sent) → Moves b x y
     wish_moves l ps h new = go (wishes.acted m d br r l ps h)
       where
         go : wishes.Acts m d br r → Moves b x y

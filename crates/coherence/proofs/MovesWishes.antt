@@ -11,7 +11,7 @@ use Rattle.bridge.specs.declared.plan.Deed.TheVariants.{Request, Land, Finish}
 use Rattle.bridge.specs.declared.plan.Plan.{Plan}
 use Rattle.bridge.specs.declared.state.Bridge.{Bridge}
 use Rattle.bridge.proofs.Clocks.{entries_are_stamped}
-use Rattle.device.specs.Meaning.{Meaning}
+use Rattle.device.specs.Meaning.{Meaning, Laws}
 use Rattle.device.specs.declared.meaning.Wish.{Wish}
 use Rattle.message.specs.Messages.{plain}
 use Rattle.message.specs.Nodes.{device_node, home_node}
@@ -33,7 +33,6 @@ use Rattle.coherence.proofs.Arising.{never}
 use Rattle.coherence.proofs.Blocks.{about, on}
 use Rattle.coherence.proofs.Carrying.{is_block_request}
 use Rattle.coherence.proofs.MovesElsewhere.{off_memory}
-use Rattle.coherence.proofs.Wishes.{Lawful}
 
 module _ {S : Type 0} (m : Meaning S) (d : ℕ) (br : Bridge S ℕ) (r : Reaction (Bridge S ℕ)) where
   -- what a decision comes to
@@ -80,7 +79,7 @@ module _ {S : Type 0} (m : Meaning S) (d : ℕ) (br : Bridge S ℕ) (r : Reactio
   flat (Ok p) = refl
   flat (Err f) = refl
 
-  pub acted : Lawful m → (ps : ℕ) → reaction m d br (Act ps) ≡ Some r → Acts
+  pub acted : Laws m → (ps : ℕ) → reaction m d br (Act ps) ≡ Some r → Acts
   acted l ps is = go (m.wish br.device) refl is
     where
       go : (o : Option Wish) → m.wish br.device ≡ o

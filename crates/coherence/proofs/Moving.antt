@@ -1,7 +1,7 @@
 -- Every effect is, for each block, one of its moves, or two in turn.
 use Rattle.std.proofs.Common.{◌≡◌, ℕ, ◌<◌, ◌≤◌, true, eqb, ◌⊎◌, List, length, Some, sym, refl, ap, ◌∙◌, subst, inl, inr, arith}
 use Rattle.bridge.specs.declared.state.Bridge.{Bridge}
-use Rattle.device.specs.Meaning.{Meaning}
+use Rattle.device.specs.Meaning.{Meaning, Laws}
 use Rattle.home.specs.Reactions.{received}
 use Rattle.home.specs.declared.machine.Home.{Home}
 use Rattle.list.specs.Contents.{removed}
@@ -35,7 +35,6 @@ use Rattle.coherence.proofs.Phases.{busy_gathering}
 use Rattle.coherence.proofs.Posts.{kept_added, kept_still}
 use Rattle.coherence.proofs.SlotsKept.{Tabled}
 use Rattle.coherence.proofs.Stepping.{after}
-use Rattle.coherence.proofs.Wishes.{Lawful}
 use Rattle.coherence.specs.Steps.{Effect, by_home, by_first, by_second, figures, waiting}
 use Rattle.coherence.specs.Worlds.{World, home_at, no_home, with_first, with_second}
 use Rattle.coherence.specs.declared.call.Call.{Call}
@@ -75,7 +74,7 @@ module _ {A B : Type 0} (ma : Meaning A) (mb : Meaning B) where
     pub second : length w.second.requests.at ≡ 16
     pub homes : HomesWell (figures ma mb w) w
 
-  module _ (la : Lawful ma) (lb : Lawful mb) (w : World A B) (fitted : Fitted w) (b : ℕ) (low : b < 16) where
+  module _ (la : Laws ma) (lb : Laws mb) (w : World A B) (fitted : Fitted w) (b : ℕ) (low : b < 16) where
     abbrev x : Block
     x = block b w
 

@@ -1,6 +1,6 @@
 -- The whole order promise, for every making and every list of calls.
 use Rattle.std.proofs.Common.{◌≡◌, ℕ, ◌<◌, true, List, ◌++◌, Some, None, Option, sym, refl, subst}
-use Rattle.device.specs.Meaning.{Meaning}
+use Rattle.device.specs.Meaning.{Meaning, Laws}
 use Rattle.message.specs.declared.figures.Figures.{Figures}
 use Rattle.std.proofs.ByRecursion.{All-weaker}
 use Rattle.std.proofs.lemmas.List.{append-nil}
@@ -29,7 +29,6 @@ use Rattle.coherence.proofs.TokensKept.{near_block}
 use Rattle.coherence.proofs.Tracking.{tracked}
 use Rattle.coherence.proofs.Values.{Values}
 use Rattle.coherence.proofs.ValuesKept.{values_made, values_passed}
-use Rattle.coherence.proofs.Wishes.{Lawful}
 use Rattle.coherence.specs.Histories.{began, run}
 use Rattle.coherence.specs.Makings.{Making, make}
 use Rattle.coherence.specs.Promise.{OrderKept, OrderPromise, at_making}
@@ -37,7 +36,7 @@ use Rattle.coherence.specs.Steps.{Effect, figures, step, waiting}
 use Rattle.coherence.specs.Worlds.{World}
 use Rattle.coherence.specs.declared.call.Call.{Call}
 
-module _ {A B : Type 0} (ma : Meaning A) (mb : Meaning B) (la : Lawful ma) (lb : Lawful mb) (k : Making A B) where
+module _ {A B : Type 0} (ma : Meaning A) (mb : Meaning B) (la : Laws ma) (lb : Laws mb) (k : Making A B) where
   abbrev figures_made : Figures
   figures_made = figures ma mb (make ma mb k)
 
@@ -46,7 +45,7 @@ module _ {A B : Type 0} (ma : Meaning A) (mb : Meaning B) (la : Lawful ma) (lb :
     kept : Kept ma mb figures_made w
     timed : Timed ma mb w
     placed : All Placed w.trail
-    mirrored : Mirrored ma mb la.laws lb.laws k w
+    mirrored : Mirrored ma mb la lb k w
     values : (b : ℕ) → b < 16 → Values b (at_making ma mb k) (block b w)
     rising : Rising w.trail
     by_order : ByOrder (at_making ma mb k) w.trail
@@ -76,8 +75,8 @@ module _ {A B : Type 0} (ma : Meaning A) (mb : Meaning B) (la : Lawful ma) (lb :
   whole_kept c w t = record {
     kept = kept_kept ma mb la lb figures_made c w t.kept;
     timed = timed_kept ma mb c w t.timed;
-    placed = steps ma mb (λ v. All Placed v.trail) c w t.placed (λ e fit is within. placed_kept ma mb la.laws lb.laws w e (arises c w t e fit (meets ma mb w c e is)) t.placed);
-    mirrored = steps ma mb (Mirrored ma mb la.laws lb.laws k) c w t.mirrored (λ e fit is within. mirrored_kept ma mb la.laws lb.laws k w t.mirrored (waiting ma mb c w) e (arises c w t e fit (meets ma mb w c e is)));
+    placed = steps ma mb (λ v. All Placed v.trail) c w t.placed (λ e fit is within. placed_kept ma mb la lb w e (arises c w t e fit (meets ma mb w c e is)) t.placed);
+    mirrored = steps ma mb (Mirrored ma mb la lb k) c w t.mirrored (λ e fit is within. mirrored_kept ma mb la lb k w t.mirrored (waiting ma mb c w) e (arises c w t e fit (meets ma mb w c e is)));
     values = λ b low. steps ma mb (λ v. Values b (at_making ma mb k) (block b v)) c w (t.values b low) (λ e fit is within.
         values_passed b (at_making ma mb k) (block b w) (block b (after w (waiting ma mb c w) e)) (near_block b w) (t.kept.tokens b low) (t.values b low)
         (passes ma mb la lb w (fitted ma mb figures_made w fit t.kept) b low c e (meets ma mb w c e is)));
@@ -90,7 +89,7 @@ module _ {A B : Type 0} (ma : Meaning A) (mb : Meaning B) (la : Lawful ma) (lb :
     kept = kept_made ma mb la lb k;
     timed = timed_made ma mb k;
     placed = tt;
-    mirrored = mirrored_made ma mb la.laws lb.laws k;
+    mirrored = mirrored_made ma mb la lb k;
     values = values_made ma mb k;
     rising = tt;
     by_order = tt;
@@ -125,5 +124,5 @@ module _ {A B : Type 0} (ma : Meaning A) (mb : Meaning B) (la : Lawful ma) (lb :
         ruled = ruled ma mb k h.world t.kept.tokens (numbered ma mb k calls).slots (subst (λ (g : Figures). All (Well g) h.world.messages) (sym t.kept.formed.same) t.kept.formed.messages);
       }
 
-pub order_promise : {A B : Type 0} (ma : Meaning A) (mb : Meaning B) → Lawful ma → Lawful mb → OrderPromise ma mb
+pub order_promise : {A B : Type 0} (ma : Meaning A) (mb : Meaning B) → Laws ma → Laws mb → OrderPromise ma mb
 order_promise ma mb la lb k calls = order_kept ma mb la lb k calls

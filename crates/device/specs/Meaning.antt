@@ -12,16 +12,13 @@ pub record Meaning (S : Type 0) : Type 0 where
   pub accepted : S → ℕ → S
   pub landed : S → ℕ → Words → S
 
--- Writing puts a value at its place. Nothing else changes a word, and nothing changes their number.
+-- Writing puts a value at its place. Nothing else changes a word, and nothing changes their number. A wish has four words.
 pub record Laws {S : Type 0} (m : Meaning S) : Type 0 where
   pub writing_words : (s : S) (p v : ℕ) → m.words (m.writing s p v) ≡ slice_set (m.words s) p v
   pub reading_words : (s : S) (p : ℕ) → m.words (m.reading s p) ≡ m.words s
   pub accepted_words : (s : S) (v : ℕ) → m.words (m.accepted s v) ≡ m.words s
   pub landed_words : (s : S) (b : ℕ) (ws : Words) → m.words (m.landed s b ws) ≡ m.words s
-
--- A wish has four words.
-abbrev pub FourWords : {S : Type 0} → Meaning S → Type 0
-FourWords {S} m = (s : S) (h : Wish) → m.wish s ≡ Some h → length h.words.at ≡ 4
+  pub four_words : (s : S) (h : Wish) → m.wish s ≡ Some h → length h.words.at ≡ 4
 
 -- A place from the count up is refused, which touches nothing.
 abbrev pub no_word : {R : Type 0} → ℕ → Result R NoWord

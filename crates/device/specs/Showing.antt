@@ -5,7 +5,7 @@ use Rattle.std.proofs.lemmas.List.{drop-set-add}
 use Rattle.std.proofs.lemmas.Bool.Decides.{nat_tests}
 use Rattle.ordering.specs.declared.operation.Words.{Words}
 use Rattle.device.specs.declared.meaning.Wish.{Wish}
-use Rattle.device.specs.Meaning.{Meaning, Laws, FourWords}
+use Rattle.device.specs.Meaning.{Meaning, Laws}
 use Rattle.device.specs.Windows.{shown, ShownAt, moved_wish, window_meaning}
 
 pub length_shown : (first size : ℕ) (ws : List ℕ) → length (shown first size ws) ≡ min size (length ws - first)
@@ -46,7 +46,5 @@ window_laws m l = record {
   reading_words = λ w p. ap (shown w.first w.size) (l.reading_words w.device (w.first + p));
   accepted_words = λ w v. ap (shown w.first w.size) (l.accepted_words w.device v);
   landed_words = λ w b ws. ap (shown w.first w.size) (l.landed_words w.device b ws);
+  four_words = λ w h is. moved_words w.first _ (m.wish w.device) h (l.four_words w.device) is;
 }
-
-pub window_four_words : {S : Type 0} (m : Meaning S) → FourWords m → FourWords (window_meaning m)
-window_four_words m four w h is = moved_words w.first _ (m.wish w.device) h (four w.device) is

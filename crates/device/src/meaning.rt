@@ -2,7 +2,7 @@
 //! state, and the state that follows each call. Code over any device is proved against these alone.
 
 ghost use Rattle.std.specs.Prelude.{◌≡◌, ◌≤◌, length};
-ghost use Rattle.device.specs.Meaning.{Meaning, Laws, FourWords, read_exit, read_answer, write_exit, write_answer};
+ghost use Rattle.device.specs.Meaning.{Meaning, Laws, read_exit, read_answer, write_exit, write_answer};
 ghost use Rattle.device.specs.Wishes.{block_wish, interrupt_wish};
 
 use ordering::operation::{Operation, Words};
@@ -82,9 +82,4 @@ pub trait Device {
         ensures { state self.new ≡ meaning.landed (state self.old) block words };
 
     ghost lawful: { Laws meaning };
-}
-
-/// A device whose every wish has four words.
-pub trait Wishing: Device {
-    ghost four_words: { FourWords Self.meaning };
 }

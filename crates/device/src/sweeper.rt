@@ -8,7 +8,7 @@ ghost use Rattle.device.specs.Sweepers.{blank, sweeper_meaning};
 ghost use Rattle.device.specs.Tasks.{task};
 ghost use Rattle.std.proofs.Common.{rules};
 
-use crate::meaning::{Device, NoWord, Wish, Wishing};
+use crate::meaning::{Device, NoWord, Wish};
 use crate::registers::Registers;
 use crate::sweep::{Stage, Sweep};
 use ordering::operation::Words;
@@ -106,8 +106,4 @@ impl<J: Job<WORDS>, const WORDS: usize> Device for Sweeper<J, WORDS> {
     }
 
     fn landed(&mut self, _block: u32, _words: Words) {}
-}
-
-impl<J: Job<WORDS>, const WORDS: usize> Wishing for Sweeper<J, WORDS> {
-    ghost four_words = { Prim.search rules };
 }

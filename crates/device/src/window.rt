@@ -3,9 +3,9 @@
 ghost use Rattle.std.specs.Prelude.{◌≡◌, ℕ, ◌-◌, min, List, length};
 ghost use Rattle.device.specs.declared.window.Window.{Window};
 ghost use Rattle.device.specs.Windows.{window, viewed, window_meaning, shown, moved, seen_at, Shows};
-ghost use Rattle.device.specs.Showing.{window_laws, window_four_words};
+ghost use Rattle.device.specs.Showing.{window_laws};
 
-use crate::meaning::{Device, NoWord, Wish, Wishing};
+use crate::meaning::{Device, NoWord, Wish};
 use ordering::operation::{Operation, Words};
 
 // By rule the wish of a hidden word goes out with a place, so it is a number and no `None`.
@@ -110,8 +110,4 @@ impl<D: Device> Device for Window<D> {
     fn landed(&mut self, block: u32, words: Words) {
         self.device.landed(block, words);
     }
-}
-
-impl<D: Wishing> Wishing for Window<D> {
-    ghost four_words = { window_four_words D.Device.meaning D.Wishing.four_words };
 }

@@ -1,6 +1,5 @@
 //! The raster board: its processors, homes and two devices of any two kinds, and the calls that are made on it.
-//! Every call does what the definition of a step says, and a whole run, for devices whose wishes have four words, keeps the order
-//! promise.
+//! Every call does what the definition of a step says, and a whole run keeps the order promise.
 
 #![tactic(auto)]
 

@@ -10,7 +10,7 @@ ghost use Rattle.raster.specs.Runs.{world_after, answers_of, overlaid};
 use crate::board::Board;
 use coherence::call::Call;
 use coherence::fault::Fault;
-use device::meaning::{Device, Wishing};
+use device::meaning::Device;
 use list::List;
 use message::message::Message;
 use trail::entry::Entry;
@@ -40,7 +40,7 @@ impl<A: Device, B: Device> Board<A, B> {
 
 /// Makes a board and then the calls in turn. As many answers are given as there are calls and places for them. The run keeps
 /// the order promise.
-pub fn run<A: Wishing, B: Wishing>(
+pub fn run<A: Device, B: Device>(
     processors: u32,
     clock: u32,
     words: &[u32],

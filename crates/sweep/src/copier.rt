@@ -6,7 +6,7 @@ ghost use Rattle.sweep.specs.declared.copier.Copying.{Copying};
 ghost use Rattle.sweep.specs.Copiers.{copier_meaning, blank_copier, copying, word_wish};
 ghost use Rattle.std.proofs.Common.{rules};
 
-use device::meaning::{Device, NoWord, Wish, Wishing};
+use device::meaning::{Device, NoWord, Wish};
 use device::registers::Registers;
 use ordering::operation::{Operation, Words};
 
@@ -99,8 +99,4 @@ impl Device for Copier {
     }
 
     fn landed(&mut self, _block: u32, _words: Words) {}
-}
-
-impl Wishing for Copier {
-    ghost four_words = { Prim.search rules };
 }

@@ -14,5 +14,5 @@ returns g c =
     record {
       world = rw (run_world ma mb k calls, ← c.make-board.ensures) c.call_all.ensures.world;
       answers = rw (← c.make-board.ensures) c.call_all.ensures.answers;
-      promise = order_promise ma mb (record { laws = g.met.A.Device.lawful; four_words = g.met.A.Wishing.four_words }) (record { laws = g.met.B.Device.lawful; four_words = g.met.B.Wishing.four_words }) k calls;
+      promise = order_promise ma mb g.met.A.Device.lawful g.met.B.Device.lawful k calls;
     }
