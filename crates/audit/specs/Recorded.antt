@@ -6,7 +6,8 @@ use Rattle.ordering.specs.declared.operation.Operation.TheVariants.{Ld, St, LdIo
 use Rattle.ordering.specs.declared.operation.Words.{Words}
 use Rattle.ordering.specs.declared.stamp.Stamp.{Stamp}
 use Rattle.std.specs.Str.{bytes_eq}
-use Rattle.text.specs.Parts.{before, other_fields, first_number, has_none}
+use Rattle.text.specs.Parts.{before, other_fields}
+use Rattle.text.specs.Reading.{then_number, at_end}
 use Rattle.trail.specs.declared.entry.Entry.{Entry}
 
 abbrev pub named : List ℕ → Option Operation
@@ -23,10 +24,6 @@ named n =
 abbrev pub next_named : Option (List ℕ) → Option Operation
 next_named None = None
 next_named (Some xs) = named (before 9 xs)
-
--- Goes on with what stands in the next field, if it is there.
-abbrev pub then_number : {A : Type 0} → Option (List ℕ) → (ℕ → Option (List ℕ) → Option A) → Option A
-then_number r k = elim (first_number r) [ None ↦ None | Some n ↦ k n (other_fields r) ]
 
 abbrev pub then_named : {A : Type 0} → Option (List ℕ) → (Operation → Option (List ℕ) → Option A) → Option A
 then_named r k = elim (next_named r) [ None ↦ None | Some o ↦ k o (other_fields r) ]
@@ -58,6 +55,4 @@ abbrev pub recorded : List ℕ → Option Entry
 recorded line =
     then_number (Some line) (λ p r₁. then_number r₁ (λ n r₂. then_named r₂ (λ o r₃. then_number r₃ (λ s r₄. then_number r₄ (λ w r₅.
     then_words r₅ (λ vs r₆. then_stamp r₆ (λ t r₇.
-    cond (has_none r₇)
-    (Some (record { party = p; sequence = n; operation = o; space = s; place = w; values = vs; stamp = t }))
-    None)))))))
+    at_end r₇ (record { party = p; sequence = n; operation = o; space = s; place = w; values = vs; stamp = t }))))))))

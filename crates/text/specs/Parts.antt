@@ -61,3 +61,16 @@ unless_empty (Some xs) = some_left xs 0
 
 abbrev pub other_lines : Option (List ℕ) → Option (List ℕ)
 other_lines r = unless_empty (other_parts 10 r)
+
+-- All lines of a text, and those that are to come.
+abbrev pub begun : ℕ → List (List ℕ) → List (List ℕ)
+begun x [] = (x ∷ []) ∷ []
+begun x (l ∷ ls) = (x ∷ l) ∷ ls
+
+abbrev pub lines_of : List ℕ → List (List ℕ)
+lines_of [] = []
+lines_of (x ∷ xs) = cond (x == 10) ([] ∷ lines_of xs) (begun x (lines_of xs))
+
+abbrev pub lines_left : Option (List ℕ) → List (List ℕ)
+lines_left None = []
+lines_left (Some xs) = lines_of xs
