@@ -1,48 +1,43 @@
--- What is read line by line is every line of the text.
-use Rattle.std.proofs.Common.{◌≡◌, ℕ, ◌==◌, true, false, cond, List, [], ◌∷◌, Some, None, Option, sym, refl, ap, ◌∙◌, arith, length-drop}
+-- The lines of a text begin with the part before its first newline.
+use Rattle.std.proofs.Common.{◌≡◌, ℕ, ◌<◌, ◌==◌, ltb, true, false, cond, List, [], ◌∷◌, length, drop, Some, None, Option, sym, refl, ap, ◌∙◌, arith, length-drop}
 use Rattle.std.proofs.lemmas.Bool.Decides.{nat_tests}
-use Rattle.text.specs.Parts.{before, after, begun, lines_of, lines_left, unless_empty, some_left, to_come, first_line, other_lines}
-use Rattle.text.specs.declared.lines.Lines.{Lines}
+use Rattle.std.proofs.lemmas.List.{nil_from_length}
+use Rattle.text.specs.Parts.{before, after, left, begun, lines_of, first_part, other_parts}
 
-whole : (x : ℕ) (xs : List ℕ) → some_left (x ∷ xs) 0 ≡ Some (x ∷ xs)
-whole x xs = grind (arith, nat_tests)
+-- the bytes of a rest, none where there is none
+abbrev bytes_of : Option (List ℕ) → List ℕ
+bytes_of None = []
+bytes_of (Some xs) = xs
 
-opens : (x : ℕ) (xs : List ℕ) → lines_of (x ∷ xs) ≡ before 10 (x ∷ xs) ∷ lines_left (unless_empty (after 10 (x ∷ xs)))
+opens : (x : ℕ) (xs : List ℕ) → lines_of (x ∷ xs) ≡ before 10 (x ∷ xs) ∷ lines_of (bytes_of (after 10 (x ∷ xs)))
 opens x [] =
-    elim (x == 10) as (λ b. cond b ([] ∷ []) ((x ∷ []) ∷ []) ≡ cond b [] (x ∷ []) ∷ lines_left (unless_empty (cond b (Some []) None))) [
+    elim (x == 10) as (λ b. cond b ([] ∷ []) ((x ∷ []) ∷ []) ≡ cond b [] (x ∷ []) ∷ lines_of (bytes_of (cond b (Some []) None))) [
       | true ↦ refl
       | false ↦ refl
     ]
 opens x (y ∷ ys) =
     elim (x == 10) as (λ b. cond b ([] ∷ lines_of (y ∷ ys)) (begun x (lines_of (y ∷ ys)))
-    ≡ cond b [] (x ∷ before 10 (y ∷ ys)) ∷ lines_left (unless_empty (cond b (Some (y ∷ ys)) (after 10 (y ∷ ys))))) [
-      | true ↦ ap (λ (r : Option (List ℕ)). [] ∷ lines_left r) (sym (whole y ys))
+    ≡ cond b [] (x ∷ before 10 (y ∷ ys)) ∷ lines_of (bytes_of (cond b (Some (y ∷ ys)) (after 10 (y ∷ ys))))) [
+      | true ↦ refl
       | false ↦ ap (begun x) (opens y ys)
     ]
 
--- an empty rest is no rest
-settled : (bytes : List ℕ) (at : ℕ) → unless_empty (some_left bytes at) ≡ some_left bytes at
-settled bytes at = let n = length-drop at bytes in grind (arith, nat_tests)
+module _ (bytes : List ℕ) where
+  pub nothing_left : (at : ℕ) → ltb at (length bytes) ≡ false → lines_of (drop at bytes) ≡ []
+  nothing_left at past = ap lines_of (nil_from_length (drop at bytes) (let n = length-drop at bytes in grind (arith, nat_tests)))
 
-reads : (r : Option (List ℕ)) (l : List ℕ) → unless_empty r ≡ r → first_line r ≡ Some l → lines_left r ≡ l ∷ lines_left (other_lines r)
-reads None l full is = cc
-reads (Some []) l full is = let gone : some_left [] 0 ≡ None = refl in cc
-reads (Some (x ∷ xs)) l full is = let same : before 10 (x ∷ xs) ≡ l = cc in opens x xs ∙ ap (λ (m : List ℕ). m ∷ lines_left (other_lines (Some (x ∷ xs)))) same
+  -- what is left is what stands from the place on
+  left_bytes : (at : ℕ) → bytes_of (left bytes at) ≡ drop at bytes
+  left_bytes at = let none = nil_from_length (drop at bytes) in let n = length-drop at bytes in grind (arith, nat_tests)
 
-none : (r : Option (List ℕ)) → first_line r ≡ None → lines_left r ≡ []
-none None is = refl
-none (Some xs) is = cc
+  first_of : (xs l : List ℕ) (r : Option (List ℕ)) → 0 < length xs → first_part 10 (Some xs) ≡ Some l → r ≡ other_parts 10 (Some xs) → lines_of xs ≡ l ∷ lines_of (bytes_of r)
+  first_of [] l r some is rest = absurd (omega arith)
+  first_of (x ∷ xs) l r some is rest = let same : before 10 (x ∷ xs) ≡ l = cc in opens x xs ∙ ap (λ (m : List ℕ). m ∷ lines_of (bytes_of (after 10 (x ∷ xs)))) same ∙ ap (λ (o : Option (List ℕ)). l ∷ lines_of (bytes_of o)) (sym rest)
 
-module _ (lines : Lines) where
-  -- A line that is read is the first of those that were to come.
-  pub next_line : (l : List ℕ) → first_line (to_come lines) ≡ Some l → lines_left (to_come lines) ≡ l ∷ lines_left (other_lines (to_come lines))
-  next_line l is = reads (to_come lines) l (settled lines.parts.bytes.now lines.parts.at) is
-
-  -- Where none is read, none was to come.
-  pub no_line : first_line (to_come lines) ≡ None → lines_left (to_come lines) ≡ []
-  no_line is = none (to_come lines) is
-
--- At the start all are.
-pub all_lines : (text : List ℕ) → lines_left (some_left text 0) ≡ lines_of text
-all_lines [] = refl
-all_lines (x ∷ xs) = ap lines_left (whole x xs)
+  -- the part that is read is the first line
+  pub opened : (at next : ℕ) (l : List ℕ) → ltb at (length bytes) ≡ true → first_part 10 (left bytes at) ≡ Some l → left bytes next ≡ other_parts 10 (left bytes at)
+      → lines_of (drop at bytes) ≡ l ∷ lines_of (drop next bytes)
+  opened at next l inside part rest =
+      let n = length-drop at bytes in
+      let here : left bytes at ≡ Some (drop at bytes) = grind (arith, nat_tests) in
+      first_of (drop at bytes) l (left bytes next) (grind (arith, nat_tests)) (rw here at part) (rw here at rest) ∙ ap (λ (xs : List ℕ). l ∷ lines_of xs) (left_bytes next)

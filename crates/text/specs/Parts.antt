@@ -1,5 +1,5 @@
 -- Parts of a run of bytes: what stands before a mark, and after it; fields and lines.
-use Rattle.std.specs.Prelude.{ℕ, Bool, true, false, cond, List, [], ◌∷◌, length, drop, Some, None, Option, ◌==◌, nat_le, nat_lt}
+use Rattle.std.specs.Prelude.{ℕ, Bool, true, false, cond, List, [], ◌∷◌, length, drop, Some, None, Option, ◌==◌, nat_le}
 use Rattle.text.specs.Numbers.{decimal}
 use Rattle.text.specs.declared.fields.Fields.{Fields}
 use Rattle.text.specs.declared.lines.Lines.{Lines}
@@ -45,24 +45,7 @@ abbrev pub has_none : Option (List ℕ) → Bool
 has_none None = true
 has_none (Some xs) = false
 
--- A newline ends a line; where nothing is left there is no further line.
-abbrev pub some_left : List ℕ → ℕ → Option (List ℕ)
-some_left bytes at = cond (nat_lt at (length bytes)) (Some (drop at bytes)) None
-
-abbrev pub to_come : Lines → Option (List ℕ)
-to_come l = some_left l.parts.bytes.now l.parts.at
-
-abbrev pub first_line : Option (List ℕ) → Option (List ℕ)
-first_line r = first_part 10 r
-
-abbrev pub unless_empty : Option (List ℕ) → Option (List ℕ)
-unless_empty None = None
-unless_empty (Some xs) = some_left xs 0
-
-abbrev pub other_lines : Option (List ℕ) → Option (List ℕ)
-other_lines r = unless_empty (other_parts 10 r)
-
--- All lines of a text, and those that are to come.
+-- The lines of a text: a newline ends a line, and the last may lack it.
 abbrev pub begun : ℕ → List (List ℕ) → List (List ℕ)
 begun x [] = (x ∷ []) ∷ []
 begun x (l ∷ ls) = (x ∷ l) ∷ ls
@@ -71,6 +54,5 @@ abbrev pub lines_of : List ℕ → List (List ℕ)
 lines_of [] = []
 lines_of (x ∷ xs) = cond (x == 10) ([] ∷ lines_of xs) (begun x (lines_of xs))
 
-abbrev pub lines_left : Option (List ℕ) → List (List ℕ)
-lines_left None = []
-lines_left (Some xs) = lines_of xs
+abbrev pub lines_left : Lines → List (List ℕ)
+lines_left l = lines_of (drop l.parts.at l.parts.bytes.now)

@@ -1,9 +1,8 @@
 //! The lines of a text. A newline ends a line; the last may lack it.
 
-ghost use Rattle.std.specs.Prelude.{◌≡◌, ◌-◌, length};
-ghost use Rattle.std.specs.Iterator.{at_most};
-ghost use Rattle.std.specs.Option.{option_map};
-ghost use Rattle.text.specs.Parts.{some_left, to_come, first_line, other_lines};
+ghost use Rattle.std.specs.Prelude.{◌≡◌};
+ghost use Rattle.std.specs.Iterator.{YieldsFirstBy, item_count};
+ghost use Rattle.text.specs.Parts.{lines_of, lines_left};
 
 use crate::parts::Parts;
 
@@ -15,7 +14,7 @@ pub struct Lines<'a> {
 
 impl<'a> Lines<'a> {
     pub fn new(text: &'a [u8]) -> Lines<'a>
-        ensures { to_come result ≡ some_left text.now 0 }
+        ensures { lines_left result ≡ lines_of text.now }
     {
         Lines {
             parts: Parts { bytes: text, at: 0 },
@@ -26,10 +25,11 @@ impl<'a> Lines<'a> {
 impl<'a> Iterator for Lines<'a> {
     type Item = &'a [u8];
 
-    ghost next_gives = { λ s r t. (option_map (λ x. x.now) r ≡ first_line (to_come s)) × (to_come t ≡ other_lines (to_come s)) };
+    ghost next_gives = { YieldsFirstBy (λ line. line.now) lines_left };
 
-    ghost remaining = { λ s. at_most (length s.parts.bytes.now - s.parts.at) };
+    ghost remaining = { item_count lines_left };
 
+    #[tactic(auto, using(crate::proofs::Splitting::opened, crate::proofs::Splitting::nothing_left))]
     fn next(&mut self) -> Option<&'a [u8]> {
         if self.parts.at >= self.parts.bytes.len() {
             return None;
