@@ -1,0 +1,7 @@
+//! Scripts: the board's calls as lines of text, and what each line comes to.
+
+#![tactic(auto)]
+
+pub mod fault;
+pub mod line;
+pub mod reader;
