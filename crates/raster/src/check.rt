@@ -19,7 +19,8 @@ pub(crate) fn check_below(number: u32, end: u32, position: u32) -> Result<(), Fa
 }
 
 impl<A, B> Board<A, B> {
-    pub(crate) fn check_fit(&self) -> Result<(), Fault>
+    /// Whether the board was made within its figures; every call that follows checks it first.
+    pub fn check_fit(&self) -> Result<(), Fault>
         ensures { result ≡ check self.now.tables.fit (fault.Board NotFit) (Ok tt) }
     {
         if !self.tables.fit {

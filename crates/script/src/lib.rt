@@ -4,4 +4,6 @@
 
 pub mod fault;
 pub mod line;
+pub mod outcome;
+pub mod play;
 pub mod reader;

@@ -1,0 +1,14 @@
+-- The line that tells an outcome.
+use Rattle.std.specs.Prelude.{ℕ, List, ◌++◌, Some, None, Ok, Err, codes, decimal}
+use Rattle.script.specs.Faults.{fault_number, fault_place}
+use Rattle.script.specs.declared.outcome.Outcome.{Outcome}
+
+abbrev pub tab : List ℕ
+tab = codes "\t"
+
+abbrev pub outcome_line : Outcome → List ℕ
+outcome_line o =
+    elim o.result [
+      | Ok a ↦ elim a [ None ↦ codes "ok" | Some v ↦ codes "ok\t" ++ decimal v ]
+      | Err f ↦ codes "no\t" ++ (decimal (fault_number f) ++ (tab ++ decimal (fault_place f)))
+    ]

@@ -1,0 +1,122 @@
+//! A script played: its first line makes the board, and each later line makes its call.
+
+ghost use Rattle.std.specs.Prelude.{◌≡◌};
+ghost use Rattle.coherence.specs.Histories.{run};
+ghost use Rattle.coherence.specs.Makings.{make};
+ghost use Rattle.coherence.specs.Promise.{OrderKept};
+ghost use Rattle.list.specs.Contents.{contents, room};
+ghost use Rattle.raster.specs.Boards.{world};
+ghost use Rattle.raster.specs.Runs.{world_after};
+ghost use Rattle.script.specs.Lines.{script_lines, seen, to_read};
+ghost use Rattle.script.specs.Scripts.{first_line, later, asked, opened, first_outcome, lined, calls_of, outcomes_of, noted, script_making, script_outcomes};
+
+use crate::fault::ScriptFault;
+use crate::line::{Line, Opening};
+use crate::outcome::Outcome;
+use crate::reader::Reader;
+use device::meaning::Device;
+use list::List;
+use message::message::Message;
+use raster::board::Board;
+use trail::entry::Entry;
+
+// The making that the first line asks for, if there is such a line.
+fn first_line(lines: &mut Reader) -> Option<Result<Opening, ScriptFault>>
+    ensures opening { result ≡ first_line (to_read lines.old) }
+    ensures rest { to_read lines.new ≡ later (to_read lines.old) }
+{
+    let line = lines.next()?;
+    Some(line.opening())
+}
+
+fn asked(opening: Option<Result<Opening, ScriptFault>>) -> Opening
+    ensures { result ≡ asked opening }
+{
+    match opening {
+        Some(Ok(opening)) => opening,
+        _ => Opening {
+            processors: 0,
+            clock: 0,
+        },
+    }
+}
+
+// What the first line came to, once the board is made.
+fn opened<A: Device, B: Device>(
+    board: &Board<A, B>,
+    opening: Result<Opening, ScriptFault>,
+) -> Result<Option<u32>, ScriptFault>
+    ensures { result ≡ opened board.now.tables.fit opening }
+{
+    opening?;
+    board.check_fit()?;
+    Ok(None)
+}
+
+fn note_first<A: Device, B: Device>(
+    board: &Board<A, B>,
+    opening: Option<Result<Opening, ScriptFault>>,
+    outcomes: &mut List<Outcome>,
+)
+    ensures contents { contents outcomes.new ≡ noted (room outcomes.old) (contents outcomes.old) (first_outcome board.now.tables.fit opening) }
+    ensures room { room outcomes.new ≡ room outcomes.old }
+{
+    if let Some(opening) = opening {
+        let result = opened(board, opening);
+        let _ = outcomes.push(Outcome { result });
+    }
+}
+
+// Makes the call of a line.
+fn call_line<A: Device, B: Device>(
+    board: &mut Board<A, B>,
+    messages: &mut List<Message>,
+    trail: &mut List<Entry>,
+    line: Line,
+) -> Result<Option<u32>, ScriptFault>
+    ensures { (result, world A.Device.state B.Device.state board.new messages.new trail.new) ≡ lined A.Device.meaning B.Device.meaning (seen line.entry) (world A.Device.state B.Device.state board.old messages.old trail.old) }
+{
+    let call = line.call()?;
+    Ok(board.call(messages, trail, call)?)
+}
+
+// Makes the calls of the lines that are to come. As many outcomes are noted as there is room for.
+fn call_lines<A: Device, B: Device>(
+    board: &mut Board<A, B>,
+    messages: &mut List<Message>,
+    trail: &mut List<Entry>,
+    lines: Reader,
+    outcomes: &mut List<Outcome>,
+)
+    ensures world { world A.Device.state B.Device.state board.new messages.new trail.new ≡ world_after A.Device.meaning B.Device.meaning (world A.Device.state B.Device.state board.old messages.old trail.old) (calls_of (to_read lines.entry)) }
+    ensures outcomes { contents outcomes.new ≡ noted (room outcomes.old) (contents outcomes.old) (outcomes_of A.Device.meaning B.Device.meaning (world A.Device.state B.Device.state board.old messages.old trail.old) (to_read lines.entry)) }
+{
+    for line in lines {
+        let result = call_line(board, messages, trail, line);
+        let _ = outcomes.push(Outcome { result });
+    }
+}
+
+/// Plays a script: its first line makes the board, and each later line makes its call. The lines' outcomes are noted in turn
+/// while there is room. The run keeps the order promise.
+pub fn play<A: Device, B: Device>(
+    script: &[u8],
+    words: &[u32],
+    first: A,
+    second: B,
+    messages: &mut List<Message>,
+    trail: &mut List<Entry>,
+    outcomes: &mut List<Outcome>,
+) -> Board<A, B>
+    ensures world { let lines = script_lines script.now in world A.Device.state B.Device.state result messages.new trail.new ≡ (run A.Device.meaning B.Device.meaning (script_making lines words.now (A.Device.state first) (B.Device.state second) messages.old trail.old) (calls_of (later lines))).world }
+    ensures outcomes { let lines = script_lines script.now in contents outcomes.new ≡ noted (room outcomes.old) (contents outcomes.old) (script_outcomes A.Device.meaning B.Device.meaning (make A.Device.meaning B.Device.meaning (script_making lines words.now (A.Device.state first) (B.Device.state second) messages.old trail.old)) lines) }
+    ensures promise { let lines = script_lines script.now in let k = script_making lines words.now (A.Device.state first) (B.Device.state second) messages.old trail.old in OrderKept A.Device.meaning B.Device.meaning k (run A.Device.meaning B.Device.meaning k (calls_of (later lines))) }
+{
+    let mut lines = Reader::new(script);
+    let opening = first_line(&mut lines);
+    let Opening { processors, clock } = asked(opening);
+    let mut board = Board::make(processors, clock, words, first, second, messages, trail);
+    note_first(&board, opening, outcomes);
+    call_lines(&mut board, messages, trail, lines, outcomes);
+    board
+}
