@@ -7,3 +7,4 @@ pub mod line;
 pub mod outcome;
 pub mod play;
 pub mod reader;
+pub mod report;
