@@ -4,7 +4,7 @@
 
 use finding::audited;
 use list::{List, Record};
-use record::{NO_ENTRY, entry_of};
+use record::entry_of;
 use std::io;
 use std::io::Read;
 use text::Lines;
@@ -33,7 +33,7 @@ fn main(rt: HostRuntime) -> io::Result<()> {
     let heap = rt.alloc();
     let mut text = Vec::new(heap);
     rt.stdin().read_to_end(&mut text)?;
-    let mut memory = vec![in heap; NO_ENTRY; Entry::MOST]?;
+    let mut memory = vec![in heap; Entry::NONE; Entry::MOST]?;
     let mut trail = List::new(&mut memory);
     read_trail(&rt, &text, &mut trail)?;
     let entries = trail.records();

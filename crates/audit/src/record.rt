@@ -11,21 +11,6 @@ use ordering::stamp::Stamp;
 use text::Fields;
 use trail::entry::Entry;
 
-/// Fills memory in which no entry stands yet.
-pub const NO_ENTRY: Entry = Entry {
-    party: 0,
-    sequence: 0,
-    operation: Operation::Ld,
-    space: 0,
-    place: 0,
-    values: Words::ZERO,
-    stamp: Stamp {
-        global: 0,
-        local: 0,
-        node: 0,
-    },
-};
-
 // Not a `TryFrom`: of a field that names none, nobody asks why.
 fn operation_named(field: &[u8]) -> Option<Operation>
     ensures { result ≡ named field.now }

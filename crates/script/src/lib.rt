@@ -6,5 +6,6 @@ pub mod fault;
 pub mod line;
 pub mod outcome;
 pub mod play;
+pub mod program;
 pub mod reader;
 pub mod report;

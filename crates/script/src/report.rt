@@ -1,6 +1,10 @@
 //! What a run of a script tells: an outcome a line, then an entry a line, and last the control sum.
 
+ghost use Rattle.std.specs.Prelude.{◌≡◌, IfOk, string_bytes};
+ghost use Rattle.script.specs.Told.{report};
+
 use crate::outcome::Outcome;
+use std::alloc::{AllocError, Global};
 use std::fmt;
 use trail::entry::Entry;
 use trail::sum::control_sum;
@@ -86,12 +90,12 @@ impl fmt::Display for Rows<'_> {
 }
 
 #[derive(Clone, Copy)]
-pub struct Report<'a> {
-    pub outcomes: &'a [Outcome],
-    pub trail: &'a [Entry],
+struct Report<'o, 't> {
+    outcomes: &'o [Outcome],
+    trail: &'t [Entry],
 }
 
-impl fmt::Display for Report<'_> {
+impl fmt::Display for Report<'_, '_> {
     ghost use Rattle.std.specs.Prelude.{Some};
     ghost use Rattle.script.specs.Told.{report};
 
@@ -105,4 +109,12 @@ impl fmt::Display for Report<'_> {
         let sum = control_sum(self.trail);
         writeln!(f, "{outcomes}{rows}sum\t{sum}")
     }
+}
+
+/// The whole text.
+pub fn report_of(heap: Global, outcomes: &[Outcome], trail: &[Entry]) -> Result<String, AllocError>
+    ensures { IfOk result (λ text. string_bytes text ≡ report outcomes.now trail.now) }
+{
+    let report = Report { outcomes, trail };
+    format!(in heap; "{report}")
 }

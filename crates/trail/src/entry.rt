@@ -17,6 +17,23 @@ pub struct Entry {
     pub stamp: Stamp,
 }
 
+impl Entry {
+    /// Fills memory in which no entry stands yet.
+    pub const NONE: Entry = Entry {
+        party: 0,
+        sequence: 0,
+        operation: Operation::Ld,
+        space: 0,
+        place: 0,
+        values: Words::ZERO,
+        stamp: Stamp {
+            global: 0,
+            local: 0,
+            node: 0,
+        },
+    };
+}
+
 impl Record for Entry {
     const MOST: usize = 4096;
 
