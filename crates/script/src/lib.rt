@@ -2,6 +2,7 @@
 
 #![tactic(auto)]
 
+pub mod cases;
 pub mod fault;
 pub mod line;
 pub mod outcome;
