@@ -1,3 +1,4 @@
+pub mod Going
 pub mod Lifting
 pub mod Planning
 pub mod Posting

@@ -151,8 +151,7 @@ impl<A: Device, B: Device> Board<A, B> {
         }
     }
 
-    /// Hands the message at a place over to its receiver.
-    pub fn deliver(
+    pub(crate) fn deliver_step(
         &mut self,
         messages: &mut List<Message>,
         trail: &mut List<Entry>,

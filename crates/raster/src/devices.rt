@@ -37,9 +37,8 @@ fn act_at<D: Device>(
 }
 
 impl<A: Device, B: Device> Board<A, B> {
-    /// Does the wish of a device.
     #[tactic(auto, using(crate::proofs::Lifting::first_wish, crate::proofs::Lifting::second_wish))]
-    pub fn act(
+    pub(crate) fn act_step(
         &mut self,
         messages: &mut List<Message>,
         trail: &mut List<Entry>,

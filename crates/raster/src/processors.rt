@@ -1,4 +1,4 @@
-//! The calls of processors, by number: the checks in the order of their numbers, the processor's reaction, one commit.
+//! What the calls of processors do: the checks in the order of their numbers, the processor's reaction, one commit.
 //! Each does what the definition of a step says, and a refusal touches nothing.
 
 ghost use Rattle.std.specs.Prelude.{◌≡◌, ◌<◌, true, length, if◌then◌else◌, Ok, OnOk, nat_lt, slice_index_or};
@@ -52,8 +52,7 @@ impl<A: Device, B: Device> Board<A, B> {
         check_below(word, self.word_count(device), 3)
     }
 
-    /// Does an LD on a line that is S or X, and tells the word.
-    pub fn load(
+    pub(crate) fn load_step(
         &mut self,
         messages: &mut List<Message>,
         trail: &mut List<Entry>,
@@ -69,8 +68,7 @@ impl<A: Device, B: Device> Board<A, B> {
         Ok(answer.unwrap_or(0))
     }
 
-    /// Does an ST on a line that is X.
-    pub fn store(
+    pub(crate) fn store_step(
         &mut self,
         messages: &mut List<Message>,
         trail: &mut List<Entry>,
@@ -87,9 +85,7 @@ impl<A: Device, B: Device> Board<A, B> {
         Ok(())
     }
 
-    // By rule any number may be given for the kind.
-    /// Asks the home of a block for GETS, GETX, UPG or WB: kinds 1 to 4.
-    pub fn request(
+    pub(crate) fn request_step(
         &mut self,
         messages: &mut List<Message>,
         trail: &mut List<Entry>,
@@ -107,8 +103,7 @@ impl<A: Device, B: Device> Board<A, B> {
         Ok(())
     }
 
-    /// Asks a device for one of its words, and takes the slot for it.
-    pub fn ldio(
+    pub(crate) fn ldio_step(
         &mut self,
         messages: &mut List<Message>,
         trail: &mut List<Entry>,
@@ -125,8 +120,7 @@ impl<A: Device, B: Device> Board<A, B> {
         Ok(())
     }
 
-    /// Sends a device a value for one of its words.
-    pub fn stio(
+    pub(crate) fn stio_step(
         &mut self,
         messages: &mut List<Message>,
         trail: &mut List<Entry>,
@@ -144,8 +138,7 @@ impl<A: Device, B: Device> Board<A, B> {
         Ok(())
     }
 
-    /// Tells the word that came from a device, and frees the slot.
-    pub fn collect(
+    pub(crate) fn collect_step(
         &mut self,
         messages: &mut List<Message>,
         trail: &mut List<Entry>,
@@ -161,8 +154,7 @@ impl<A: Device, B: Device> Board<A, B> {
         Ok(answer.unwrap_or(0))
     }
 
-    /// Lets the slot for a device go: at once if its word came, else once it comes.
-    pub fn give_up(
+    pub(crate) fn give_up_step(
         &mut self,
         messages: &mut List<Message>,
         trail: &mut List<Entry>,
@@ -178,8 +170,7 @@ impl<A: Device, B: Device> Board<A, B> {
         Ok(())
     }
 
-    /// Tells the latest interrupt word that was not polled, or none.
-    pub fn poll(
+    pub(crate) fn poll_step(
         &mut self,
         messages: &mut List<Message>,
         trail: &mut List<Entry>,

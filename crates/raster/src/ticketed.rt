@@ -7,6 +7,7 @@ ghost use Rattle.coherence.specs.declared.call.Call.TheVariants.{Load, Store, Re
 ghost use Rattle.list.specs.Contents.{contents};
 ghost use Rattle.raster.specs.Answers.{told, done, source_answer};
 ghost use Rattle.raster.specs.Boards.{world};
+ghost use Rattle.raster.specs.Runs.{GoesOn};
 ghost use Rattle.raster.specs.Tickets.{granted, refusal};
 
 use crate::board::Board;
@@ -54,6 +55,7 @@ impl<A: Device, B: Device> Ticketed<A, B> {
         word: u32,
     ) -> Result<Ticket, Fault>
         ensures step { (granted result, world A.Device.state B.Device.state self.new.board messages.new trail.new) ≡ step A.Device.meaning B.Device.meaning (LdIo processor device word) (world A.Device.state B.Device.state self.old.board messages.old trail.old) }
+        ensures run { GoesOn A.Device.meaning B.Device.meaning (LdIo processor device word) (world A.Device.state B.Device.state self.old.board messages.old trail.old) (granted result, world A.Device.state B.Device.state self.new.board messages.new trail.new) }
         ensures ticket { IfOk result (λ t. (t.processor ≡ processor) × (t.device ≡ device)) }
     {
         self.board.ldio(messages, trail, processor, device, word)?;
@@ -68,6 +70,7 @@ impl<A: Device, B: Device> Ticketed<A, B> {
         ticket: Ticket,
     ) -> Result<u32, (Fault, Ticket)>
         ensures step { (told (refusal result), world A.Device.state B.Device.state self.new.board messages.new trail.new) ≡ step A.Device.meaning B.Device.meaning (Collect ticket.processor ticket.device) (world A.Device.state B.Device.state self.old.board messages.old trail.old) }
+        ensures run { GoesOn A.Device.meaning B.Device.meaning (Collect ticket.processor ticket.device) (world A.Device.state B.Device.state self.old.board messages.old trail.old) (told (refusal result), world A.Device.state B.Device.state self.new.board messages.new trail.new) }
         ensures ticket { IfErr result (λ e. e.1 ≡ ticket) }
     {
         let answer = self
@@ -84,6 +87,7 @@ impl<A: Device, B: Device> Ticketed<A, B> {
         ticket: Ticket,
     ) -> Result<(), (Fault, Ticket)>
         ensures step { (done (refusal result), world A.Device.state B.Device.state self.new.board messages.new trail.new) ≡ step A.Device.meaning B.Device.meaning (GiveUp ticket.processor ticket.device) (world A.Device.state B.Device.state self.old.board messages.old trail.old) }
+        ensures run { GoesOn A.Device.meaning B.Device.meaning (GiveUp ticket.processor ticket.device) (world A.Device.state B.Device.state self.old.board messages.old trail.old) (done (refusal result), world A.Device.state B.Device.state self.new.board messages.new trail.new) }
         ensures ticket { IfErr result (λ e. e.1 ≡ ticket) }
     {
         let answer = self
@@ -99,7 +103,8 @@ impl<A: Device, B: Device> Ticketed<A, B> {
         processor: u32,
         word: u32,
     ) -> Result<u32, Fault>
-        ensures { (told result, world A.Device.state B.Device.state self.new.board messages.new trail.new) ≡ step A.Device.meaning B.Device.meaning (Load processor word) (world A.Device.state B.Device.state self.old.board messages.old trail.old) }
+        ensures step { (told result, world A.Device.state B.Device.state self.new.board messages.new trail.new) ≡ step A.Device.meaning B.Device.meaning (Load processor word) (world A.Device.state B.Device.state self.old.board messages.old trail.old) }
+        ensures run { GoesOn A.Device.meaning B.Device.meaning (Load processor word) (world A.Device.state B.Device.state self.old.board messages.old trail.old) (told result, world A.Device.state B.Device.state self.new.board messages.new trail.new) }
     {
         self.board.load(messages, trail, processor, word)
     }
@@ -112,7 +117,8 @@ impl<A: Device, B: Device> Ticketed<A, B> {
         word: u32,
         value: u32,
     ) -> Result<(), Fault>
-        ensures { (done result, world A.Device.state B.Device.state self.new.board messages.new trail.new) ≡ step A.Device.meaning B.Device.meaning (Store processor word value) (world A.Device.state B.Device.state self.old.board messages.old trail.old) }
+        ensures step { (done result, world A.Device.state B.Device.state self.new.board messages.new trail.new) ≡ step A.Device.meaning B.Device.meaning (Store processor word value) (world A.Device.state B.Device.state self.old.board messages.old trail.old) }
+        ensures run { GoesOn A.Device.meaning B.Device.meaning (Store processor word value) (world A.Device.state B.Device.state self.old.board messages.old trail.old) (done result, world A.Device.state B.Device.state self.new.board messages.new trail.new) }
     {
         self.board.store(messages, trail, processor, word, value)
     }
@@ -125,7 +131,8 @@ impl<A: Device, B: Device> Ticketed<A, B> {
         block: u32,
         kind: u32,
     ) -> Result<(), Fault>
-        ensures { (done result, world A.Device.state B.Device.state self.new.board messages.new trail.new) ≡ step A.Device.meaning B.Device.meaning (Request processor block kind) (world A.Device.state B.Device.state self.old.board messages.old trail.old) }
+        ensures step { (done result, world A.Device.state B.Device.state self.new.board messages.new trail.new) ≡ step A.Device.meaning B.Device.meaning (Request processor block kind) (world A.Device.state B.Device.state self.old.board messages.old trail.old) }
+        ensures run { GoesOn A.Device.meaning B.Device.meaning (Request processor block kind) (world A.Device.state B.Device.state self.old.board messages.old trail.old) (done result, world A.Device.state B.Device.state self.new.board messages.new trail.new) }
     {
         self.board.request(messages, trail, processor, block, kind)
     }
@@ -139,7 +146,8 @@ impl<A: Device, B: Device> Ticketed<A, B> {
         word: u32,
         value: u32,
     ) -> Result<(), Fault>
-        ensures { (done result, world A.Device.state B.Device.state self.new.board messages.new trail.new) ≡ step A.Device.meaning B.Device.meaning (StIo processor device word value) (world A.Device.state B.Device.state self.old.board messages.old trail.old) }
+        ensures step { (done result, world A.Device.state B.Device.state self.new.board messages.new trail.new) ≡ step A.Device.meaning B.Device.meaning (StIo processor device word value) (world A.Device.state B.Device.state self.old.board messages.old trail.old) }
+        ensures run { GoesOn A.Device.meaning B.Device.meaning (StIo processor device word value) (world A.Device.state B.Device.state self.old.board messages.old trail.old) (done result, world A.Device.state B.Device.state self.new.board messages.new trail.new) }
     {
         self.board
             .stio(messages, trail, processor, device, word, value)
@@ -151,7 +159,8 @@ impl<A: Device, B: Device> Ticketed<A, B> {
         trail: &mut List<Entry>,
         device: u32,
     ) -> Result<(), Fault>
-        ensures { (done result, world A.Device.state B.Device.state self.new.board messages.new trail.new) ≡ step A.Device.meaning B.Device.meaning (Act device) (world A.Device.state B.Device.state self.old.board messages.old trail.old) }
+        ensures step { (done result, world A.Device.state B.Device.state self.new.board messages.new trail.new) ≡ step A.Device.meaning B.Device.meaning (Act device) (world A.Device.state B.Device.state self.old.board messages.old trail.old) }
+        ensures run { GoesOn A.Device.meaning B.Device.meaning (Act device) (world A.Device.state B.Device.state self.old.board messages.old trail.old) (done result, world A.Device.state B.Device.state self.new.board messages.new trail.new) }
     {
         self.board.act(messages, trail, device)
     }
@@ -162,7 +171,8 @@ impl<A: Device, B: Device> Ticketed<A, B> {
         trail: &mut List<Entry>,
         place: u32,
     ) -> Result<(), Fault>
-        ensures { (done result, world A.Device.state B.Device.state self.new.board messages.new trail.new) ≡ step A.Device.meaning B.Device.meaning (Deliver place) (world A.Device.state B.Device.state self.old.board messages.old trail.old) }
+        ensures step { (done result, world A.Device.state B.Device.state self.new.board messages.new trail.new) ≡ step A.Device.meaning B.Device.meaning (Deliver place) (world A.Device.state B.Device.state self.old.board messages.old trail.old) }
+        ensures run { GoesOn A.Device.meaning B.Device.meaning (Deliver place) (world A.Device.state B.Device.state self.old.board messages.old trail.old) (done result, world A.Device.state B.Device.state self.new.board messages.new trail.new) }
     {
         self.board.deliver(messages, trail, place)
     }
@@ -173,7 +183,8 @@ impl<A: Device, B: Device> Ticketed<A, B> {
         trail: &mut List<Entry>,
         processor: u32,
     ) -> Result<Option<u32>, Fault>
-        ensures { (result, world A.Device.state B.Device.state self.new.board messages.new trail.new) ≡ step A.Device.meaning B.Device.meaning (Poll processor) (world A.Device.state B.Device.state self.old.board messages.old trail.old) }
+        ensures step { (result, world A.Device.state B.Device.state self.new.board messages.new trail.new) ≡ step A.Device.meaning B.Device.meaning (Poll processor) (world A.Device.state B.Device.state self.old.board messages.old trail.old) }
+        ensures run { GoesOn A.Device.meaning B.Device.meaning (Poll processor) (world A.Device.state B.Device.state self.old.board messages.old trail.old) (result, world A.Device.state B.Device.state self.new.board messages.new trail.new) }
     {
         self.board.poll(messages, trail, processor)
     }

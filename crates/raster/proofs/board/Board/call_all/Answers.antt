@@ -13,7 +13,7 @@ loop-place-preserved g c =
     let next = world g.A.Device.state g.B.Device.state c.call-answer.new.self c.call-answer.new.messages c.call-answer.new.trail in
     let now =
     turn g.A.Device.meaning g.B.Device.meaning start c.args.calls.now c.loop-place.place (Load 0 0) c.args.answers.now c.loop-place.answers
-    was next c.call-answer.result c.loop-place-test.true c.call-answer.ensures c.loop-place.invariant.0 c.loop-place.invariant.1 in (
+    was next c.call-answer.result c.loop-place-test.true c.call-answer.ensures.step c.loop-place.invariant.0 c.loop-place.invariant.1 in (
       now.0,
       elim c.if-place-answers.branch [
         | then-place-answers w ↦ w.answers-is ∙ now.1
