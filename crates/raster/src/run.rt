@@ -38,8 +38,8 @@ impl<A: Device, B: Device> Board<A, B> {
     }
 }
 
-/// Makes a board and then the calls in turn. As many answers are given as there are calls and places for them. The run keeps
-/// the order promise.
+/// Makes a board and then the calls in turn. As many answers are given as there are calls and places for them. The run,
+/// whose history has that world, keeps the order promise.
 pub fn run<A: Device, B: Device>(
     processors: u32,
     clock: u32,
@@ -51,9 +51,9 @@ pub fn run<A: Device, B: Device>(
     calls: &[Call],
     answers: &mut [Result<Option<u32>, Fault>],
 ) -> Board<A, B>
-    ensures world { world A.Device.state B.Device.state result messages.new trail.new ≡ (run A.Device.meaning B.Device.meaning (making processors clock words.now (A.Device.state first) (B.Device.state second) messages.old trail.old) calls.now).world }
+    ensures world { world A.Device.state B.Device.state result messages.new trail.new ≡ world_after A.Device.meaning B.Device.meaning (make A.Device.meaning B.Device.meaning (making processors clock words.now (A.Device.state first) (B.Device.state second) messages.old trail.old)) calls.now }
     ensures answers { answers.new ≡ overlaid answers.old (answers_of A.Device.meaning B.Device.meaning (make A.Device.meaning B.Device.meaning (making processors clock words.now (A.Device.state first) (B.Device.state second) messages.old trail.old)) calls.now) }
-    ensures promise { let k = making processors clock words.now (A.Device.state first) (B.Device.state second) messages.old trail.old in OrderKept A.Device.meaning B.Device.meaning k (run A.Device.meaning B.Device.meaning k calls.now) }
+    ensures promise { let k = making processors clock words.now (A.Device.state first) (B.Device.state second) messages.old trail.old in let history = run A.Device.meaning B.Device.meaning k calls.now in (history.world ≡ world_after A.Device.meaning B.Device.meaning (make A.Device.meaning B.Device.meaning k) calls.now) × OrderKept A.Device.meaning B.Device.meaning k history }
 {
     let mut board = Board::make(processors, clock, words, first, second, messages, trail);
     board.call_all(messages, trail, calls, answers);
