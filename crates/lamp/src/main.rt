@@ -1,0 +1,73 @@
+//! Processors read lamps by ticket: who asks for a word holds a ticket for it until it collects the word or gives it up.
+
+#![tactic(auto)]
+
+mod bank;
+mod shift;
+mod start;
+mod tickets;
+mod words;
+
+use bank::Bank;
+use list::List;
+use message::kind::Kind;
+use message::message::Message;
+use ordering::operation::{Operation, Words};
+use ordering::stamp::Stamp;
+use raster::ticket::Ticketed;
+use shift::{Told, work};
+use start::start;
+use std::io;
+use trail::entry::Entry;
+use words::{Done, Refused, Source};
+
+// Fills memory in which no entry stands yet.
+const NO_ENTRY: Entry = Entry {
+    party: 0,
+    sequence: 0,
+    operation: Operation::Ld,
+    space: 0,
+    place: 0,
+    values: Words::ZERO,
+    stamp: Stamp {
+        global: 0,
+        local: 0,
+        node: 0,
+    },
+};
+
+fn show_told(rt: &impl Print, told: Told) -> io::Result<()> {
+    println!(rt; "processor 1 asks twice: {}", Refused(told.again))?;
+    println!(rt; "processor 0 is early: {}", Refused(told.early))?;
+    println!(rt; "processor 0 reads {}", told.first)?;
+    println!(rt; "processor 1 gives up")?;
+    println!(rt; "processor 2 reads {}", told.third)
+}
+
+fn show_trail(
+    rt: &impl Print,
+    board: &Ticketed<Bank, Bank>,
+    trail: &List<Entry>,
+) -> io::Result<()> {
+    for (number, entry) in trail.records().iter().enumerate() {
+        println!(rt; "{number}: {}", Done(*entry))?;
+        if entry.operation.is_read() {
+            match board.source(trail, number, 0) {
+                Ok(source) => println!(rt; "   source: {}", Source(source))?,
+                Err(fault) => println!(rt; "   source: {}", Refused(fault))?,
+            }
+        }
+    }
+    Ok(())
+}
+
+fn main(rt: HostRuntime) -> io::Result<()> {
+    let mut message_memory = [Message::plain(Kind::Gets, 0, 0, 0); 16];
+    let mut entry_memory = [NO_ENTRY; 16];
+    let mut messages = List::new(&mut message_memory);
+    let mut trail = List::new(&mut entry_memory);
+    let mut board = start(&mut messages, &mut trail);
+    let told = work(&mut board, &mut messages, &mut trail);
+    show_told(&rt, told)?;
+    show_trail(&rt, &board, &trail)
+}
