@@ -5,6 +5,8 @@
 mod bank;
 mod shift;
 mod start;
+#[cfg(test)]
+mod tests;
 mod tickets;
 mod words;
 

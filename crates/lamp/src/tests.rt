@@ -1,0 +1,81 @@
+//! Examples of whole runs: a word stored and read, and a board outside its figures.
+
+use crate::NO_ENTRY;
+use crate::bank::Bank;
+use coherence::call::Call;
+use coherence::fault::Fault;
+use list::List;
+use message::kind::Kind;
+use message::message::Message;
+use raster::board::Board;
+use raster::run::run;
+use raster::ticket::Ticketed;
+
+// Processor 0 comes to own block 0, and changes and reads its first word.
+const CALLS: [Call; 5] = [
+    Call::Request {
+        processor: 0,
+        block: 0,
+        kind: 2,
+    },
+    Call::Deliver { place: 0 },
+    Call::Deliver { place: 0 },
+    Call::Store {
+        processor: 0,
+        word: 0,
+        value: 7,
+    },
+    Call::Load {
+        processor: 0,
+        word: 0,
+    },
+];
+
+fn refused_with(answer: Result<Option<u32>, Fault>) -> Option<(u32, usize)> {
+    answer.err().map(|fault| (fault.number(), fault.place()))
+}
+
+#[test]
+fn a_stored_word_is_read(rt: HostRuntime) {
+    let mut message_memory = [Message::plain(Kind::Gets, 0, 0, 0); 16];
+    let mut entry_memory = [NO_ENTRY; 16];
+    let mut messages = List::new(&mut message_memory);
+    let mut trail = List::new(&mut entry_memory);
+    let (first, second) = (Bank::new([0; 4]), Bank::new([0; 4]));
+    let mut board = Board::make(1, 0, &[0; 64], first, second, &mut messages, &mut trail);
+    let mut answers = [Ok(None); 5];
+    board.call_all(&mut messages, &mut trail, &CALLS, &mut answers);
+    assert!(rt;
+        matches!(
+            answers,
+            [Ok(None), Ok(None), Ok(None), Ok(None), Ok(Some(7))]
+        )
+    );
+    assert!(rt; matches!(board.source(&trail, 1, 0), Ok(Some((0, 7)))));
+    assert!(rt; matches!(Ticketed::new(board).source(&trail, 1, 0), Ok(Some((0, 7)))));
+}
+
+#[test]
+fn outside_its_figures_a_board_refuses_all(rt: HostRuntime) {
+    let mut message_memory = [Message::plain(Kind::Gets, 0, 0, 0); 16];
+    let mut entry_memory = [NO_ENTRY; 16];
+    let mut messages = List::new(&mut message_memory);
+    let mut trail = List::new(&mut entry_memory);
+    let (first, second) = (Bank::new([0; 4]), Bank::new([0; 4]));
+    let mut answers = [Ok(None); 5];
+    // One processor too many.
+    let _board = run(
+        5,
+        0,
+        &[0; 64],
+        first,
+        second,
+        &mut messages,
+        &mut trail,
+        &CALLS,
+        &mut answers,
+    );
+    for answer in answers {
+        assert_eq!(rt; refused_with(answer), Some((1, 0)));
+    }
+}
