@@ -6,6 +6,7 @@ use Rattle.coherence.specs.Makings.{Making, make}
 use Rattle.coherence.specs.Steps.{Answer, step}
 use Rattle.coherence.specs.Worlds.{World}
 use Rattle.coherence.specs.declared.call.Call.{Call}
+use Rattle.coherence.specs.declared.call.Call.TheVariants.{Load}
 use Rattle.device.specs.Meaning.{Meaning}
 use Rattle.std.proofs.lemmas.List.{length-take-le, take_more}
 use Rattle.raster.specs.Runs.{world_after, answers_of, overlaid}
@@ -38,7 +39,7 @@ module _ {A B : Type 0} (ma : Meaning A) (mb : Meaning B) where
       → (step ma mb (get_or cs i d) (world_after ma mb w (take i cs))).1 ≡ world_after ma mb w (take (i + 1) cs)
   world_more w cs i d h = sym (ap (world_after ma mb w) (take_more cs i d h) ∙ world_push w (take i cs) (get_or cs i d))
 
-  pub answers_more : (w : World A B) (cs : List Call) (i : ℕ) (d : Call) (was : List Answer) → i < length cs
+  answers_more : (w : World A B) (cs : List Call) (i : ℕ) (d : Call) (was : List Answer) → i < length cs
       → set (overlaid was (answers_of ma mb w (take i cs))) i (step ma mb (get_or cs i d) (world_after ma mb w (take i cs))).0
       ≡ overlaid was (answers_of ma mb w (take (i + 1) cs))
   answers_more w cs i d was h =
@@ -48,18 +49,20 @@ module _ {A B : Type 0} (ma : Meaning A) (mb : Meaning B) where
       let more = ap (answers_of ma mb w) (take_more cs i d h) ∙ answers_push w (take i cs) (get_or cs i d) in
       sym (ap (overlaid was) more ∙ overlaid_more was now new ∙ ap (λ (n : ℕ). set (overlaid was now) n new) long)
 
-  -- a call made on the world so far, its answer written behind those so far
-  pub turn : (start : World A B) (cs : List Call) (i : ℕ) (d : Call) (was so_far : List Answer) (w v : World A B) (r : Answer) → i < length cs
-      → (r, v) ≡ step ma mb (get_or cs i d) w
+  -- a call made on the world so far
+  pub turned : (start : World A B) (cs : List Call) (i : ℕ) (w v : World A B) → i < length cs → w ≡ world_after ma mb start (take i cs)
+      → v ≡ (step ma mb (get_or cs i (Load 0 0)) w).1 → v ≡ world_after ma mb start (take (i + 1) cs)
+  turned start cs i w v h at made = made ∙ ap (λ (x : World A B). (step ma mb (get_or cs i (Load 0 0)) x).1) at ∙ world_more start cs i (Load 0 0) h
+
+  -- its answer, written behind those so far
+  pub noted : (start : World A B) (cs : List Call) (i : ℕ) (was so_far now : List Answer) (w : World A B) → i < length cs
       → w ≡ world_after ma mb start (take i cs) → so_far ≡ overlaid was (answers_of ma mb start (take i cs))
-      → (v ≡ world_after ma mb start (take (i + 1) cs)) × (set so_far i r ≡ overlaid was (answers_of ma mb start (take (i + 1) cs)))
-  turn start cs i d was so_far w v r h made at told = rw told (
-    ap (λ (o : Answer × World A B). o.1) here ∙ world_more start cs i d h,
-    ap (λ (o : Answer × World A B). set (overlaid was (answers_of ma mb start (take i cs))) i o.0) here ∙ answers_more start cs i d was h,
-  )
-    where
-      here : (r, v) ≡ step ma mb (get_or cs i d) (world_after ma mb start (take i cs))
-      here = made ∙ ap (step ma mb (get_or cs i d)) at
+      → now ≡ set so_far i (step ma mb (get_or cs i (Load 0 0)) w).0 → now ≡ overlaid was (answers_of ma mb start (take (i + 1) cs))
+  noted start cs i was so_far now w h at told made =
+      made
+      ∙ ap (λ (xs : List Answer). set xs i (step ma mb (get_or cs i (Load 0 0)) w).0) told
+      ∙ ap (λ (x : World A B). set (overlaid was (answers_of ma mb start (take i cs))) i (step ma mb (get_or cs i (Load 0 0)) x).0) at
+      ∙ answers_more start cs i (Load 0 0) was h
 
   after_world : (h : History A B) (cs : List Call) → (after_calls ma mb h cs).world ≡ world_after ma mb h.world cs
   after_world h [] = refl
@@ -70,3 +73,6 @@ module _ {A B : Type 0} (ma : Meaning A) (mb : Meaning B) where
   -- the world of a run's history
   pub run_world : (k : Making A B) (cs : List Call) → (run ma mb k cs).world ≡ world_after ma mb (make ma mb k) cs
   run_world k cs = after_world (began ma mb k) cs
+
+-- What a loop over calls needs of each.
+pub ruleset turns = (turned, noted, overlaid_none)
