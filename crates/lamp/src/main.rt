@@ -14,29 +14,12 @@ use bank::Bank;
 use list::List;
 use message::kind::Kind;
 use message::message::Message;
-use ordering::operation::{Operation, Words};
-use ordering::stamp::Stamp;
 use raster::ticket::Ticketed;
 use shift::{Told, work};
 use start::start;
 use std::io;
 use trail::entry::Entry;
 use words::{Done, Refused, Source};
-
-// Fills memory in which no entry stands yet.
-const NO_ENTRY: Entry = Entry {
-    party: 0,
-    sequence: 0,
-    operation: Operation::Ld,
-    space: 0,
-    place: 0,
-    values: Words::ZERO,
-    stamp: Stamp {
-        global: 0,
-        local: 0,
-        node: 0,
-    },
-};
 
 fn show_told(rt: &impl Print, told: Told) -> io::Result<()> {
     println!(rt; "processor 1 asks twice: {}", Refused(told.again))?;
@@ -65,7 +48,7 @@ fn show_trail(
 
 fn main(rt: HostRuntime) -> io::Result<()> {
     let mut message_memory = [Message::plain(Kind::Gets, 0, 0, 0); 16];
-    let mut entry_memory = [NO_ENTRY; 16];
+    let mut entry_memory = [Entry::NONE; 16];
     let mut messages = List::new(&mut message_memory);
     let mut trail = List::new(&mut entry_memory);
     let mut board = start(&mut messages, &mut trail);

@@ -1,6 +1,5 @@
 //! Examples of whole runs: a word stored and read, and a board outside its figures.
 
-use crate::NO_ENTRY;
 use crate::bank::Bank;
 use coherence::call::Call;
 use coherence::fault::Fault;
@@ -10,6 +9,7 @@ use message::message::Message;
 use raster::board::Board;
 use raster::run::run;
 use raster::ticket::Ticketed;
+use trail::entry::Entry;
 
 // Processor 0 comes to own block 0, and changes and reads its first word.
 const CALLS: [Call; 5] = [
@@ -38,7 +38,7 @@ fn refused_with(answer: Result<Option<u32>, Fault>) -> Option<(u32, usize)> {
 #[test]
 fn a_stored_word_is_read(rt: HostRuntime) {
     let mut message_memory = [Message::plain(Kind::Gets, 0, 0, 0); 16];
-    let mut entry_memory = [NO_ENTRY; 16];
+    let mut entry_memory = [Entry::NONE; 16];
     let mut messages = List::new(&mut message_memory);
     let mut trail = List::new(&mut entry_memory);
     let (first, second) = (Bank::new([0; 4]), Bank::new([0; 4]));
@@ -58,7 +58,7 @@ fn a_stored_word_is_read(rt: HostRuntime) {
 #[test]
 fn outside_its_figures_a_board_refuses_all(rt: HostRuntime) {
     let mut message_memory = [Message::plain(Kind::Gets, 0, 0, 0); 16];
-    let mut entry_memory = [NO_ENTRY; 16];
+    let mut entry_memory = [Entry::NONE; 16];
     let mut messages = List::new(&mut message_memory);
     let mut trail = List::new(&mut entry_memory);
     let (first, second) = (Bank::new([0; 4]), Bank::new([0; 4]));
