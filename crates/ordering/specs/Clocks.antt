@@ -1,5 +1,5 @@
 -- Clocks: passing a number, counting an operation, and the end of numbers.
-use Rattle.std.specs.Prelude.{◌≡◌, ℕ, ◌+◌, ◌<◌, max, Bool, cond, ◌&&◌, ◌⊎◌, Some, None, Option, nat_le}
+use Rattle.std.specs.Prelude.{◌≡◌, ℕ, ◌+◌, ◌<◌, ◌≤◌, max, Bool, cond, ◌&&◌, ◌⊎◌, Some, None, Option, nat_le}
 use Rattle.ordering.specs.declared.clock.Clock.{Clock}
 
 -- Where global, local and sequence numbers end; the end itself is a number that may be had.
@@ -23,6 +23,11 @@ settled c = cond (is_within c) (Some c) None
 -- An operation with the last number may be done, so the number of the next may stand one past it.
 abbrev pub settled_next : ℕ → Option ℕ
 settled_next n = cond (nat_le n (number_end + 1)) (Some n) None
+
+-- An operation may have any number up to the end and none above it: the number after its own can or cannot be had.
+pub record NumbersAreUsed : Type 0 where
+  pub up_to_the_end : (n : ℕ) → n ≤ number_end → settled_next (n + 1) ≡ Some (n + 1)
+  pub none_above : (n : ℕ) → number_end < n → settled_next (n + 1) ≡ None
 
 -- By global number, then local number.
 abbrev pub Earlier : Clock ℕ → Clock ℕ → Type 0

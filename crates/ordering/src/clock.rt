@@ -2,7 +2,7 @@
 //! `N` is the width of the numbers: 32 bits at rest, 64 where one may stand past the end.
 
 ghost use Rattle.std.specs.Prelude.{◌≡◌, ◌+◌, ◌<◌, max, Option};
-ghost use Rattle.ordering.specs.Clocks.{counted, passed, settled, settled_next};
+ghost use Rattle.ordering.specs.Clocks.{counted, passed, settled, settled_next, NumbersAreUsed};
 
 /// Where global, local and sequence numbers end.
 pub const END: u32 = 1_000_000_000;
@@ -101,6 +101,11 @@ pub fn settled_next(sequence: u64) -> Option<u32>
     }
     Some(sequence as u32)
 }
+
+/// An operation may have any number up to the end, and none above it.
+pub fn numbers_are_used()
+    ensures { NumbersAreUsed }
+{}
 
 #[cfg(test)]
 mod tests {
