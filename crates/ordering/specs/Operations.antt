@@ -1,5 +1,5 @@
 -- The seven operations: which read, which write, which go to a block, and their names.
-use Rattle.std.specs.Prelude.{ℕ, Bool, ◌||◌, List, codes, ◌==◌}
+use Rattle.std.specs.Prelude.{◌≡◌, ℕ, Bool, false, not, ◌&&◌, ◌||◌, List, codes, ◌==◌}
 use Rattle.ordering.specs.declared.operation.Operation.{Operation}
 use Rattle.ordering.specs.declared.operation.Operation.TheVariants.{Ld, St, LdIo, StIo, Int, LdBlk, StBlk}
 
@@ -24,6 +24,11 @@ is_write o = is St o || is StIo o || is StBlk o
 
 abbrev pub is_block : Operation → Bool
 is_block o = is LdBlk o || is StBlk o
+
+-- No operation reads and writes, and each but INT does one of them.
+pub record ReadsOrWrites : Type 0 where
+  pub not_both : (o : Operation) → (is_read o && is_write o) ≡ false
+  pub one_but_int : (o : Operation) → (is_read o || is_write o) ≡ not (is Int o)
 
 abbrev pub name_of : Operation → List ℕ
 name_of Ld = codes "LD"

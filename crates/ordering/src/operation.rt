@@ -1,7 +1,7 @@
 //! The seven operations, and the four words that one carries.
 
 ghost use Rattle.std.specs.Prelude.{◌≡◌};
-ghost use Rattle.ordering.specs.Operations.{is_read, is_write, is_block, name_of};
+ghost use Rattle.ordering.specs.Operations.{is_read, is_write, is_block, name_of, ReadsOrWrites};
 ghost use Rattle.ordering.specs.Words.{one_word};
 
 use std::fmt;
@@ -52,6 +52,11 @@ impl Operation {
         }
     }
 }
+
+/// No operation reads and writes, and each but INT does one of them.
+pub fn operations_read_or_write()
+    ensures { ReadsOrWrites }
+{}
 
 impl fmt::Display for Operation {
     ghost use Rattle.std.specs.Prelude.{Some};
