@@ -1,7 +1,7 @@
 //! Which of two operations of one party must come first: the two order tables, and the rule that reads them.
 
 ghost use Rattle.std.specs.Prelude.{◌≡◌, ◌<◌};
-ghost use Rattle.ordering.specs.Orders.{column, letter, one_target, ordered, TablesInWords};
+ghost use Rattle.ordering.specs.Orders.{column, letter, one_target, ordered, TablesInWords, RuleInWords};
 
 use crate::operation::Operation;
 
@@ -102,6 +102,12 @@ impl Party {
 #[tactic(auto, using(crate::proofs::Cells::tables_in_words))]
 pub fn tables_are_in_words()
     ensures { TablesInWords }
+{}
+
+/// The rule orders what its words say, by the letter of the cell.
+#[tactic(auto, using(crate::proofs::Rule::rule_in_words))]
+pub fn rule_is_in_words()
+    ensures { RuleInWords }
 {}
 
 #[cfg(test)]
