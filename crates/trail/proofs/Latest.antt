@@ -3,11 +3,12 @@ use Rattle.std.proofs.Common.{◌≡◌, ℕ, zero, suc, ◌+◌, ◌<◌, Bool,
 use Rattle.ordering.proofs.Total.{strict_total_order}
 use Rattle.ordering.specs.Stamps.{below}
 use Rattle.ordering.specs.declared.stamp.Stamp.{Stamp}
+use Rattle.std.proofs.lemmas.Bool.{and_parts, and_from}
 use Rattle.std.proofs.lemmas.Bool.Decides.{nat_tests}
 use Rattle.std.specs.List.{slice_get}
 use Rattle.trail.proofs.Choice.{falls}
 use Rattle.trail.specs.Addresses.{value_at}
-use Rattle.trail.specs.Sources.{writes_below, later, latest, told, Source, LatestWrite}
+use Rattle.trail.specs.Sources.{writes_below, later, latest, told, Source, LatestWrite, WritesBelow}
 use Rattle.trail.specs.declared.address.Address.{Address}
 use Rattle.trail.specs.declared.entry.Entry.{Entry}
 use Rattle.trail.specs.declared.source.Candidate.{Candidate}
@@ -142,3 +143,9 @@ latest_write trail a s = go (latest a s 0 trail) (chosen a s 0 trail)
           greatest = law.greatest;
           first = λ m e l h w. law.first m e (omega arith) h w;
         }
+
+pub writes_are_below : WritesBelow
+writes_are_below = record {
+  each = λ a s e h. let p = and_parts _ _ h in let q = and_parts _ _ p.0 in (q.0, q.1, p.1);
+  all = λ a s e w c b. and_from _ _ (and_from _ _ w c) b;
+}

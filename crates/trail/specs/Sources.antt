@@ -24,6 +24,11 @@ fault_place NoWord = 2
 abbrev pub writes_below : Address → Stamp → Entry → Bool
 writes_below a s e = is_write e.operation && covers e a && below e.stamp s
 
+-- That is: a write, which covers the address, and of the two stamps its own is the lower; and every such entry.
+pub record WritesBelow : Type 0 where
+  pub each : (a : Address) (s : Stamp) (e : Entry) → writes_below a s e ≡ true → (is_write e.operation ≡ true) × (covers e a ≡ true) × (below e.stamp s ≡ true)
+  pub all : (a : Address) (s : Stamp) (e : Entry) → is_write e.operation ≡ true → covers e a ≡ true → below e.stamp s ≡ true → writes_below a s e ≡ true
+
 abbrev pub candidate : Address → Stamp → ℕ → Entry → Option Candidate
 candidate a s n e = cond (writes_below a s e) (Some (record { entry = n; value = value_at e a; stamp = e.stamp })) None
 

@@ -1,7 +1,7 @@
 //! The source of a word that was read: the write below it with the greatest stamp there.
 
 ghost use Rattle.std.specs.Prelude.{◌≡◌};
-ghost use Rattle.trail.specs.Sources.{candidate, later, latest, source_of, fault_number, fault_place, LatestWrite};
+ghost use Rattle.trail.specs.Sources.{candidate, later, latest, source_of, fault_number, fault_place, LatestWrite, WritesBelow};
 
 use crate::address::Address;
 use crate::entry::Entry;
@@ -100,6 +100,12 @@ pub fn source(trail: &[Entry], entry: usize, word: u32) -> Result<Option<(usize,
 #[tactic(auto, using(crate::proofs::Latest::latest_write))]
 pub fn sources_are_latest()
     ensures { LatestWrite }
+{}
+
+/// What may be a source is a write that covers the address and is below the reader, and every such write may be.
+#[tactic(auto, using(crate::proofs::Latest::writes_are_below))]
+pub fn sources_are_writes_below()
+    ensures { WritesBelow }
 {}
 
 #[cfg(test)]
