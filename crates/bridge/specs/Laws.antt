@@ -1,6 +1,6 @@
 -- What holds of every reaction of a bridge, in every state and around every device.
 use Rattle.std.specs.Prelude.{◌≡◌, ℕ, ◌+◌, ◌<◌, ◌≤◌, Bool, true, false, cond, ◌||◌, ◌⊎◌, List, [], ◌∷◌, length, is_some, Some, None, Err, Option, slice_index, slice_set}
-use Rattle.ordering.specs.Operations.{is}
+use Rattle.ordering.specs.Operations.{is, is_block}
 use Rattle.ordering.specs.Stamps.{stamped}
 use Rattle.ordering.specs.Words.{one_word, first_word}
 use Rattle.ordering.specs.declared.operation.Operation.TheVariants as operation
@@ -135,12 +135,15 @@ pub record BridgesKeepToTheirPart {S : Type 0} (m : Meaning S) : Type 0 where
   pub named : (b : Bridge S ℕ) (d ps : ℕ) (f : DeviceFault) → act m d ps b ≡ Err f → fault_place f ≡ d
 
 -- A device without a wish gets nothing done. A wish for an LD or ST is no device's. An own LDio or STio is refused
--- only for a word that the device does not have, and a wish has to wait only while a block request is out.
+-- only for a word that the device does not have. A wish has to wait only while a block request is out, and only where its
+-- processor or its block is there.
 pub record WishesAreJudged {S : Type 0} (m : Meaning S) : Type 0 where
   pub none : (b : Bridge S ℕ) (d ps : ℕ) → m.wish b.device ≡ None → act m d ps b ≡ Err (NoWish d)
   pub foreign : (b : Bridge S ℕ) (d ps : ℕ) (h : Wish) → m.wish b.device ≡ Some h → (is operation.Ld h.operation || is operation.St h.operation) ≡ true → act m d ps b ≡ Err (BadWish d)
   pub own : (b : Bridge S ℕ) (d ps : ℕ) (h : Wish) (f : DeviceFault) → m.wish b.device ≡ Some h → (is operation.LdIo h.operation || is operation.StIo h.operation) ≡ true → act m d ps b ≡ Err f → (f ≡ BadWish d) × (length (m.words b.device) ≤ h.place)
   pub waits : (b : Bridge S ℕ) (d ps : ℕ) → act m d ps b ≡ Err (MustWait d) → any_out b.requests ≡ true
+  pub interrupts : (b : Bridge S ℕ) (d ps : ℕ) (h : Wish) → m.wish b.device ≡ Some h → is operation.Int h.operation ≡ true → act m d ps b ≡ Err (MustWait d) → h.processor < ps
+  pub blocks : (b : Bridge S ℕ) (d ps : ℕ) (h : Wish) → m.wish b.device ≡ Some h → is_block h.operation ≡ true → act m d ps b ≡ Err (MustWait d) → h.place < 16
 
 -- What is done to the device at each deed, call after call, and that is all that is done to it.
 abbrev pub calls_of : {S : Type 0} → Meaning S → S → Deed → List Event
