@@ -1,3 +1,4 @@
 pub mod Above
 pub mod Back
+pub mod Holders
 pub mod Keeps

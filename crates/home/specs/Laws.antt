@@ -1,8 +1,9 @@
 -- What a home keeps, whatever it is told. h is the home of block b, m the message that reaches it.
-use Rattle.std.specs.Prelude.{◌≡◌, ℕ, ◌+◌, ◌<◌, ◌≤◌, Bool, true, false, ◌&&◌, ◌||◌, is_some, IfSome, Some, None}
+use Rattle.std.specs.Prelude.{◌≡◌, ◌≢◌, ℕ, ◌+◌, ◌<◌, ◌≤◌, Bool, true, false, ◌&&◌, ◌||◌, is_some, IfSome, Some, None}
 use Rattle.message.specs.Kinds.{same_kind, is_request}
-use Rattle.message.specs.Nodes.{home_node}
+use Rattle.message.specs.Nodes.{home_node, is_device}
 use Rattle.message.specs.Reactions.{single, sent}
+use Rattle.message.specs.declared.kind.Kind.{Kind}
 use Rattle.message.specs.declared.kind.Kind.TheVariants.{Upg, Rblk, Wblk, Ack, Nack, Taken}
 use Rattle.message.specs.declared.message.Message.{Message}
 use Rattle.message.specs.declared.reaction.Reaction.{Reaction}
@@ -11,11 +12,11 @@ use Rattle.std.specs.List.{AllByRecursion}
 use Rattle.home.specs.Directories.{round_of}
 use Rattle.home.specs.Plans.{plan}
 use Rattle.home.specs.Reactions.{finished, heard_home, received}
-use Rattle.home.specs.Requests.{operation_for}
+use Rattle.home.specs.Requests.{asks_down, operation_for}
 use Rattle.home.specs.Sets.{has}
 use Rattle.home.specs.declared.directory.Phase.TheVariants.{Free, Gathering, Replied}
 use Rattle.home.specs.declared.directory.View.{View}
-use Rattle.home.specs.declared.directory.View.TheVariants.{Shared}
+use Rattle.home.specs.declared.directory.View.TheVariants.{Shared, Exclusive}
 use Rattle.home.specs.declared.machine.Home.{Home}
 use Rattle.home.specs.declared.plan.Plan.TheVariants.{Ask}
 use Rattle.home.specs.Sets.{Processors}
@@ -67,6 +68,12 @@ abbrev pub TakenFrees : Type 0
 TakenFrees =
     (h : Home ℕ) (b : ℕ) (m : Message ℕ) → same_kind m.kind Taken ≡ true
     → IfSome (received h b m) (λ x. is_free x.next ≡ true)
+
+-- After a device's TAKEN the home is above what it told the device; a processor's moves no clock.
+abbrev pub TakenIsPassed : Type 0
+TakenIsPassed =
+    (h : Home ℕ) (b : ℕ) (m : Message ℕ) → same_kind m.kind Taken ≡ true
+    → IfSome (received h b m) (λ x. (is_device m.sender ≡ true → h.clock.global < x.next.clock.global) × (is_device m.sender ≡ false → x.next.clock ≡ h.clock))
 
 -- Only requests, ACK and TAKEN have a rule.
 abbrev pub OtherKindsHaveNoRule : Type 0
@@ -135,6 +142,11 @@ WordsStay =
 abbrev pub GrantsToSharers : Type 0
 GrantsToSharers =
     (v : View) (holders asked : Processors) (p : ℕ) → plan Upg v holders p ≡ Some (Ask asked) → (v ≡ Shared) × (has holders p ≡ true)
+
+-- The owner of a block is asked for it whatever the request, and for one that does more than read each other holder is.
+pub record HoldersAreAsked : Type 0 where
+  pub owner : (k : Kind) (holders asked : Processors) (p : ℕ) → plan k Exclusive holders p ≡ Some (Ask asked) → asked ≡ holders
+  pub sharers : (k : Kind) (holders asked : Processors) (p q : ℕ) → plan k Shared holders p ≡ Some (Ask asked) → asks_down k ≡ false → q ≢ p → has holders q ≡ true → has asked q ≡ true
 
 -- A device's write writes the words of its request; its read gets the words of the home, and the reply tells them.
 pub record ServesAsAsked (h : Home ℕ) (b : ℕ) : Type 0 where

@@ -1,7 +1,7 @@
 //! What a home keeps, whatever it is told: each law is the contract of a function that does nothing.
 
 ghost use Rattle.home.specs.Cases.{WorkedExchange};
-ghost use Rattle.home.specs.Laws.{RefusesWhileBusy, NacksGiveBack, BusyUntilTaken, TakenFrees, OtherKindsHaveNoRule, ClockNeverGoesBack, FinishesAboveAll, HearsAll, RepliesAboveAll, WordsStay, GrantsToSharers, HomesServeAsAsked};
+ghost use Rattle.home.specs.Laws.{RefusesWhileBusy, NacksGiveBack, BusyUntilTaken, TakenFrees, OtherKindsHaveNoRule, ClockNeverGoesBack, FinishesAboveAll, HearsAll, RepliesAboveAll, WordsStay, GrantsToSharers, HomesServeAsAsked, TakenIsPassed, HoldersAreAsked};
 
 /// A home that is not free answers every request with NACK, and changes nothing.
 pub fn busy_homes_refuse()
@@ -18,6 +18,17 @@ pub fn nacks_give_back()
 pub fn homes_stay_busy_until_taken()
     ensures only { BusyUntilTaken }
     ensures then { TakenFrees }
+{}
+
+/// A device's TAKEN takes the home above what it told the device; a processor's moves no clock.
+pub fn taken_is_passed()
+    ensures { TakenIsPassed }
+{}
+
+/// An owner is asked whatever the request, and for one that does more than read each other holder is.
+#[tactic(auto, using(crate::proofs::Holders::holders_are_asked))]
+pub fn holders_are_asked()
+    ensures { HoldersAreAsked }
 {}
 
 /// There is no rule for what is no request, acknowledgement or TAKEN.
