@@ -11,15 +11,16 @@ use Rattle.message.specs.declared.kind.Kind.{Kind}
 use Rattle.message.specs.declared.kind.Kind.TheVariants as kind
 use Rattle.message.specs.declared.message.Message.{Message}
 use Rattle.message.specs.declared.reaction.Reaction.{Reaction}
-use Rattle.processor.specs.Calls.{load, store, ldio, stio, collect, poll}
+use Rattle.processor.specs.Calls.{load, store, request, ldio, stio, collect, poll}
 use Rattle.processor.specs.Inputs.{Input, reaction, message_of, stored_word}
-use Rattle.processor.specs.Lines.{line_at, held_words, block_of}
+use Rattle.processor.specs.Lines.{line_at, held_words, owned_words, block_of}
 use Rattle.processor.specs.Receive.{receive}
 use Rattle.processor.specs.Slots.{slot_at, is_awaited}
 use Rattle.processor.specs.States.{made}
+use Rattle.processor.specs.declared.line.Line.{Line}
 use Rattle.processor.specs.declared.line.Line.TheVariants.{Invalid, Shared}
-use Rattle.processor.specs.declared.refusal.Refusal.TheVariants.{SlotTaken}
-use Rattle.processor.specs.declared.slot.Slot.TheVariants.{Abandoned}
+use Rattle.processor.specs.declared.refusal.Refusal.TheVariants.{RequestOut, Awaits, SlotTaken}
+use Rattle.processor.specs.declared.slot.Slot.TheVariants.{Free, Abandoned}
 use Rattle.processor.specs.declared.state.Processor.{Processor}
 use Rattle.ordering.specs.Clocks.{Earlier}
 use Rattle.ordering.specs.Words.{one_word, first_word}
@@ -131,3 +132,25 @@ pub record ProcessorsWriteAsAsked : Type 0 where
   pub stored : (s : Processor ℕ) (n w v : ℕ) (r : Reaction (Processor ℕ)) → store s n w v ≡ Ok r → (e : Entry) → r.entry ≡ Some e → (e.values ≡ one_word v) × (e.place ≡ w)
   pub sent : (s : Processor ℕ) (n d w v : ℕ) (r : Reaction (Processor ℕ)) → stio s n d w v ≡ Ok r → (y : Message ℕ) → r.sent ≡ single y → (y.words ≡ one_word v) × (y.place ≡ w) × (y.receiver ≡ device_node d)
   pub interrupted : (s : Processor ℕ) (n : ℕ) (m : Message ℕ) (r : Reaction (Processor ℕ)) → receive s n m ≡ Some r → (e : Entry) → r.entry ≡ Some e → e.values ≡ one_word (first_word m.words)
+
+-- What is told is told once: a second poll tells nothing, and a collected slot is free again.
+pub record ToldOnce : Type 0 where
+  pub polled : (s : Processor ℕ) → (poll (poll s).next).answer ≡ None
+  pub collected : (s : Processor ℕ) (d : ℕ) (r : Reaction (Processor ℕ)) → collect s d ≡ Ok r → slot_at r.next.slots d ≡ Free
+
+-- Where a request has its place: GETS and GETX where no copy is held, UPG at a shared one, WB at one's own; no other kind.
+pub record HasPlace (l : Line) (k : Kind) : Type 0 where
+  pub copy : (same_kind k kind.Gets || same_kind k kind.Getx) ≡ true → l ≡ Invalid
+  pub better : same_kind k kind.Upg ≡ true → (is_some (held_words l) ≡ true) × (is_some (owned_words l) ≡ false)
+  pub back : same_kind k kind.Wb ≡ true → is_some (owned_words l) ≡ true
+  pub others : (same_kind k kind.Gets || same_kind k kind.Getx || same_kind k kind.Upg || same_kind k kind.Wb) ≡ true
+
+abbrev pub RequestsHavePlaces : Type 0
+RequestsHavePlaces = (s : Processor ℕ) (n b : ℕ) (k : Kind) (r : Reaction (Processor ℕ)) → request s n b k ≡ Ok r → HasPlace (line_at s.lines b) k
+
+-- Of two things that stand in the way the first is told: a word that is awaited only where the line would do, and a request
+-- that is out only where this one has its place.
+pub record RefusedInOrder : Type 0 where
+  pub loads : (s : Processor ℕ) (n w d : ℕ) → load s n w ≡ Err (Awaits d) → is_some (held_words (line_at s.lines (block_of w))) ≡ true
+  pub stores : (s : Processor ℕ) (n w v d : ℕ) → store s n w v ≡ Err (Awaits d) → is_some (owned_words (line_at s.lines (block_of w))) ≡ true
+  pub requests : (s : Processor ℕ) (n b c : ℕ) (k : Kind) → request s n b k ≡ Err (RequestOut c) → HasPlace (line_at s.lines b) k

@@ -1,7 +1,7 @@
 //! What holds of every reaction of a processor, whatever its state and whatever came.
 
 ghost use Rattle.processor.specs.Cases.{WorkedCases};
-ghost use Rattle.processor.specs.Laws.{ClocksGoOn, EntriesAreStamped, AskedLinesGiveWay, OnlyStoresChangeWords, NackOnlyEnds, GivenUpSlotsStayTaken, OwnOperationsWait, ToldWordsAreTrue, ProcessorsKeepToTheirPart, ProcessorsWriteAsAsked};
+ghost use Rattle.processor.specs.Laws.{ClocksGoOn, EntriesAreStamped, AskedLinesGiveWay, OnlyStoresChangeWords, NackOnlyEnds, GivenUpSlotsStayTaken, OwnOperationsWait, ToldWordsAreTrue, ProcessorsKeepToTheirPart, ProcessorsWriteAsAsked, ToldOnce, RequestsHavePlaces, RefusedInOrder};
 
 /// No reaction takes the clock back, and one that does an operation takes it on; after a message whose
 /// clock is passed, the global number is above it.
@@ -62,4 +62,19 @@ pub fn worked_cases_come_out()
 /// A store writes the value of its call, Wio carries that of an STio, and an interrupt has the word that came.
 pub fn processors_write_as_asked()
     ensures { ProcessorsWriteAsAsked }
+{}
+
+/// A second poll tells nothing, and a collected slot is free again.
+pub fn words_are_told_once()
+    ensures { ToldOnce }
+{}
+
+/// A request goes out only where it has its place: GETS and GETX without a copy, UPG at a shared one, WB at one's own.
+pub fn requests_have_places()
+    ensures { RequestsHavePlaces }
+{}
+
+/// Of two things that stand in the way of a call, the first in its order is told.
+pub fn refusals_come_in_order()
+    ensures { RefusedInOrder }
 {}
