@@ -1,5 +1,6 @@
 -- Worked cases, computed: a windowed plate setter and a scanner on a board of two processors with zero memory.
-use Rattle.std.specs.Prelude.{◌≡◌, ℕ, true, List, [], ◌∷◌, replicate, Some, None, Ok, Err, Option, slice_index_or}
+use Rattle.std.specs.Prelude.{◌≡◌, ℕ, true, List, [], ◌∷◌, map, replicate, Some, None, Ok, Err, Option, slice_index_or}
+use Rattle.bridge.specs.declared.fault.DeviceFault.TheVariants.{NoWish, BadWish, MustWait}
 use Rattle.device.specs.Plates.{PlateSetter, plate_meaning, blank_plate}
 use Rattle.device.specs.Scanners.{Scanner, scanner_meaning, blank_scanner}
 use Rattle.device.specs.Windows.{window, window_meaning}
@@ -11,7 +12,8 @@ use Rattle.ordering.specs.Stamps.{below}
 use Rattle.ordering.specs.declared.clock.Clock.{Clock}
 use Rattle.ordering.specs.declared.stamp.Stamp.{Stamp}
 use Rattle.std.specs.Option.{option_map}
-use Rattle.std.specs.List.{slice_get}
+use Rattle.processor.specs.declared.refusal.Refusal.TheVariants.{NotHeld, Unfit, RequestOut, Awaits, SlotTaken, NotCollectable}
+use Rattle.std.specs.List.{range_with_len, slice_get}
 use Rattle.trail.specs.declared.entry.Entry.{Entry}
 use Rattle.coherence.specs.Faults.{fault_number, fault_place}
 use Rattle.coherence.specs.Histories.{run}
@@ -20,6 +22,10 @@ use Rattle.coherence.specs.Steps.{Answer, step}
 use Rattle.coherence.specs.Worlds.{World, processor_at, home_at}
 use Rattle.coherence.specs.declared.call.Call.{Call}
 use Rattle.coherence.specs.declared.call.Call.TheVariants.{Load, Store, Request, StIo, Act, Deliver}
+use Rattle.coherence.specs.declared.fault.BoardFault.TheVariants.{NotFit, Argument, Refused, TrailFull, NumberEnds}
+use Rattle.coherence.specs.declared.fault.Fault.{Fault}
+use Rattle.coherence.specs.declared.fault.Fault.TheVariants.{Device, Network, Board}
+use Rattle.coherence.specs.declared.fault.NetworkFault.TheVariants.{OlderWaits, NoRule, MessagesFull}
 
 abbrev Plates : Type 0
 Plates = Window PlateSetter
@@ -81,7 +87,17 @@ abbrev pub sweeping : List Call
 sweeping =
     StIo 0 0 1 15 ∷ Deliver 0 ∷ StIo 0 0 2 2 ∷ Deliver 0 ∷ StIo 0 0 3 0 ∷ Deliver 0 ∷ StIo 0 0 0 1 ∷ Deliver 0 ∷ []
 
+-- The sixteen faults in the order of their numbers, each with the place p, if it has one.
+abbrev pub faults_at : ℕ → List Fault
+faults_at p =
+    Board NotFit ∷ Board (Argument p) ∷ Board (Refused (NotHeld p)) ∷ Board (Refused (Unfit p)) ∷ Board (Refused (RequestOut p))
+    ∷ Board (Refused (Awaits p)) ∷ Board (Refused (SlotTaken p)) ∷ Board (Refused (NotCollectable p)) ∷ Network (OlderWaits p)
+    ∷ Network (NoRule p) ∷ Device (NoWish p) ∷ Device (BadWish p) ∷ Device (MustWait p) ∷ Network (MessagesFull p)
+    ∷ Board (TrailFull p) ∷ Board (NumberEnds p) ∷ []
+
 pub record WorkedCases : Type 0 where
+  pub faults_numbered : map fault_number (faults_at 5) ≡ range_with_len 1 16
+  pub faults_placed : map fault_place (faults_at 5) ≡ 0 ∷ replicate 15 5
   pub passes_five : passed (clock_of 3 2) 5 ≡ clock_of 6 0
   pub passes_two : passed (clock_of 3 2) 2 ≡ clock_of 4 0
   pub global_first : below (stamp 2 9 3) (stamp 3 1 0) ≡ true
