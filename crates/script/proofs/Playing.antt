@@ -1,5 +1,6 @@
 -- The outcomes of a script: that of its first line, then those of the later ones.
 use Rattle.std.proofs.Common.{◌≡◌, ℕ, List, [], ◌∷◌, ◌++◌, Option, Result, refl, ap, ◌∙◌}
+use Rattle.coherence.specs.Makings.{Making, make}
 use Rattle.coherence.specs.Worlds.{World}
 use Rattle.device.specs.Meaning.{Meaning}
 use Rattle.list.specs.Contents.{pushed}
@@ -12,6 +13,10 @@ use Rattle.script.specs.declared.outcome.Outcome.{Outcome}
 noted_both : (room : ℕ) (os xs ys : List Outcome) → noted room (noted room os xs) ys ≡ noted room os (xs ++ ys)
 noted_both room os [] ys = refl
 noted_both room os (x ∷ xs) ys = noted_both room (pushed os room x) xs ys
+
+-- A board is made of what was asked for.
+pub made_as : {A B : Type 0} (ma : Meaning A) (mb : Meaning B) (k : Opening → Making A B) (o p : Opening) (w : World A B) → w ≡ make ma mb (k o) → o ≡ p → w ≡ make ma mb (k p)
+made_as ma mb k o p w is same = is ∙ ap (λ (x : Opening). make ma mb (k x)) same
 
 module _ {A B : Type 0} (ma : Meaning A) (mb : Meaning B) (w v : World A B) (made : w ≡ v) (ls rest : List Text) (left : rest ≡ later ls)
     (o : Option (Result Opening ScriptFault)) (first : o ≡ first_line ls) where

@@ -6,8 +6,7 @@ use Rattle.raster.proofs.Turns.{run_world}
 use Rattle.raster.specs.Boards.{world, making}
 use Rattle.script.specs.Lines.{script_lines, to_read}
 use Rattle.script.specs.Scripts.{asked, calls_of, first_line, later, script_making}
-use Rattle.script.specs.declared.line.Opening.{Opening}
-use Rattle.script.proofs.Playing.{all_noted}
+use Rattle.script.proofs.Playing.{all_noted, made_as}
 use Rattle.script.proofs.play.play.Goals as goal
 
 pub returns : goal.returns
@@ -21,9 +20,9 @@ returns g c =
     let first : c.first_line-opening.result ≡ first_line lines = c.first_line-opening.ensures.opening ∙ ap first_line c.new-lines.ensures in
     let rest : to_read c.first_line-opening.new.lines ≡ later lines = c.first_line-opening.ensures.rest ∙ ap later c.new-lines.ensures in
     let begun : w ≡ make ma mb k =
-    c.make-board.ensures
-    ∙ ap (λ (o : Opening). make ma mb (making o.processors o.clock c.args.words.now (g.A.Device.state c.args.first) (g.B.Device.state c.args.second) c.args.messages.now c.args.trail.now))
-    (c.asked-processors.ensures ∙ ap asked first)
+    made_as ma mb
+    (λ o. making o.processors o.clock c.args.words.now (g.A.Device.state c.args.first) (g.B.Device.state c.args.second) c.args.messages.now c.args.trail.now)
+    c.asked-processors.result (asked (first_line lines)) w c.make-board.ensures (c.asked-processors.ensures ∙ ap asked first)
     in
     record {
       world = rw (run_world ma mb k calls, ← begun, ← rest) c.call_lines.ensures.world;
