@@ -14,16 +14,22 @@ call_at n = get_or shift_calls n (Load 0 0)
 
 -- The call is made in the world that the first n led to; its numbers may be a ticket's.
 module _ (n : ℕ) (c : Call) (w v : World (List ℕ) (List ℕ)) (one : n < 16) (is : c ≡ call_at n) (at : w ≡ reached n) where
-  pub next : v ≡ (step bank_meaning bank_meaning c w).1 → v ≡ reached (n + 1)
+  to_next : v ≡ (step bank_meaning bank_meaning c w).1 → v ≡ reached (n + 1)
   unfolding reached
-  next made =
+  to_next made =
       made
       ∙ ap (λ (d : Call). (step bank_meaning bank_meaning d w).1) is
       ∙ ap (λ (x : World (List ℕ) (List ℕ)). (step bank_meaning bank_meaning (call_at n) x).1) at
       ∙ world_more bank_meaning bank_meaning (make bank_meaning bank_meaning shift_board) shift_calls n (Load 0 0) one
 
-  pub next_told : (r : Answer) → (r, v) ≡ step bank_meaning bank_meaning c w → v ≡ reached (n + 1)
-  next_told r made = next (ap (λ (o : Answer × World (List ℕ) (List ℕ)). o.1) made)
+  pub next : (r : Answer) → (r, v) ≡ step bank_meaning bank_meaning c w → v ≡ reached (n + 1)
+  next r made = to_next (ap (λ (o : Answer × World (List ℕ) (List ℕ)). o.1) made)
+
+  pub told : (r : Answer) → (r, v) ≡ step bank_meaning bank_meaning c w → r ≡ (step bank_meaning bank_meaning (call_at n) (reached n)).0
+  told r made =
+      ap (λ (o : Answer × World (List ℕ) (List ℕ)). o.0) made
+      ∙ ap (λ (d : Call). (step bank_meaning bank_meaning d w).0) is
+      ∙ ap (λ (x : World (List ℕ) (List ℕ)). (step bank_meaning bank_meaning (call_at n) x).0) at
 
 -- Whether it is accepted there.
 pub outcome : (n : ℕ) (c : Call) (w : World (List ℕ) (List ℕ)) (b : Bool) → c ≡ call_at n → w ≡ reached n

@@ -5,7 +5,11 @@ use Rattle.coherence.specs.Steps.{step}
 use Rattle.coherence.specs.Worlds.{World}
 use Rattle.coherence.specs.declared.call.Call.{Call}
 use Rattle.coherence.specs.declared.call.Call.TheVariants.{LdIo, StIo, Collect, GiveUp, Deliver}
+use Rattle.coherence.specs.declared.fault.BoardFault.TheVariants.{Refused}
+use Rattle.coherence.specs.declared.fault.Fault.{Fault}
+use Rattle.coherence.specs.declared.fault.Fault.TheVariants.{Board}
 use Rattle.device.specs.Meaning.{Meaning}
+use Rattle.processor.specs.declared.refusal.Refusal.TheVariants.{SlotTaken, NotCollectable}
 use Rattle.raster.specs.Runs.{world_after}
 use Rattle.lamp.specs.Banks.{bank_meaning}
 
@@ -34,3 +38,10 @@ reached n = world_after bank_meaning bank_meaning (make bank_meaning bank_meanin
 -- Whether a call is accepted.
 abbrev pub accepts : {A B : Type 0} → Meaning A → Meaning B → Call → World A B → Bool
 accepts ma mb c w = is_ok (step ma mb c w).0
+
+-- Why a processor cannot ask a device for a second word, and why it cannot collect a word that has not come.
+abbrev pub slot_taken : ℕ → Fault
+slot_taken d = Board (Refused (SlotTaken d))
+
+abbrev pub too_early : ℕ → Fault
+too_early d = Board (Refused (NotCollectable d))

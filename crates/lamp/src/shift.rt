@@ -3,7 +3,7 @@
 
 ghost use Rattle.std.specs.Prelude.{◌≡◌};
 ghost use Rattle.lamp.specs.Banks.{lamps};
-ghost use Rattle.lamp.specs.Shifts.{reached};
+ghost use Rattle.lamp.specs.Shifts.{reached, slot_taken, too_early};
 ghost use Rattle.raster.specs.Boards.{world};
 
 use crate::bank::Bank;
@@ -45,6 +45,7 @@ fn ask_all(
     ensures first { (result.first.processor ≡ 0) × (result.first.device ≡ 0) }
     ensures second { (result.second.processor ≡ 1) × (result.second.device ≡ 0) }
     ensures third { (result.third.processor ≡ 2) × (result.third.device ≡ 1) }
+    ensures again { result.again ≡ slot_taken 0 }
 {
     let _ = board.stio(messages, trail, 0, 0, 1, 7);
     let first = ask(board, messages, trail, 0, 0, 1);
@@ -68,7 +69,8 @@ fn first_reads(
 ) -> (Fault, u32)
     requires world { world lamps lamps board.old.board messages.old trail.old ≡ reached 5 }
     requires ticket { (ticket.processor ≡ 0) × (ticket.device ≡ 0) }
-    ensures { world lamps lamps board.new.board messages.new trail.new ≡ reached 10 }
+    ensures world { world lamps lamps board.new.board messages.new trail.new ≡ reached 10 }
+    ensures told { (result.0 ≡ too_early 0) × (result.1 ≡ 7) }
 {
     let _ = board.deliver(messages, trail, 0);
     let _ = board.deliver(messages, trail, 0);
@@ -102,7 +104,8 @@ fn third_reads(
 ) -> u32
     requires world { world lamps lamps board.old.board messages.old trail.old ≡ reached 13 }
     requires ticket { (ticket.processor ≡ 2) × (ticket.device ≡ 1) }
-    ensures { world lamps lamps board.new.board messages.new trail.new ≡ reached 16 }
+    ensures world { world lamps lamps board.new.board messages.new trail.new ≡ reached 16 }
+    ensures told { result ≡ 23 }
 {
     let _ = board.deliver(messages, trail, 0);
     let _ = board.deliver(messages, trail, 0);
@@ -116,7 +119,8 @@ pub fn work(
     trail: &mut List<Entry>,
 ) -> Told
     requires { world lamps lamps board.old.board messages.old trail.old ≡ reached 0 }
-    ensures { world lamps lamps board.new.board messages.new trail.new ≡ reached 16 }
+    ensures world { world lamps lamps board.new.board messages.new trail.new ≡ reached 16 }
+    ensures told { result ≡ record { again = slot_taken 0; early = too_early 0; first = 7; third = 23 } }
 {
     let asked = ask_all(board, messages, trail);
     let Asked {

@@ -1,6 +1,6 @@
 //! Calls by ticket whose outcome is known beforehand, so that no ticket is left over where none can be spent.
 
-ghost use Rattle.std.specs.Prelude.{◌≡◌, true, false};
+ghost use Rattle.std.specs.Prelude.{◌≡◌, true, false, Some, None, Ok, Err};
 ghost use Rattle.coherence.specs.Steps.{step};
 ghost use Rattle.coherence.specs.declared.call.Call.TheVariants.{LdIo, Collect, GiveUp};
 ghost use Rattle.lamp.specs.Shifts.{accepts};
@@ -23,7 +23,7 @@ pub fn ask<A: Device, B: Device>(
     word: u32,
 ) -> Ticket
     requires { accepts A.Device.meaning B.Device.meaning (LdIo processor device word) (world A.Device.state B.Device.state board.old.board messages.old trail.old) ≡ true }
-    ensures world { world A.Device.state B.Device.state board.new.board messages.new trail.new ≡ (step A.Device.meaning B.Device.meaning (LdIo processor device word) (world A.Device.state B.Device.state board.old.board messages.old trail.old)).1 }
+    ensures step { (Ok None, world A.Device.state B.Device.state board.new.board messages.new trail.new) ≡ step A.Device.meaning B.Device.meaning (LdIo processor device word) (world A.Device.state B.Device.state board.old.board messages.old trail.old) }
     ensures ticket { (result.processor ≡ processor) × (result.device ≡ device) }
 {
     match board.ldio(messages, trail, processor, device, word) {
@@ -42,7 +42,7 @@ pub fn ask_in_vain<A: Device, B: Device>(
     word: u32,
 ) -> Fault
     requires { accepts A.Device.meaning B.Device.meaning (LdIo processor device word) (world A.Device.state B.Device.state board.old.board messages.old trail.old) ≡ false }
-    ensures { world A.Device.state B.Device.state board.new.board messages.new trail.new ≡ (step A.Device.meaning B.Device.meaning (LdIo processor device word) (world A.Device.state B.Device.state board.old.board messages.old trail.old)).1 }
+    ensures { (Err result, world A.Device.state B.Device.state board.new.board messages.new trail.new) ≡ step A.Device.meaning B.Device.meaning (LdIo processor device word) (world A.Device.state B.Device.state board.old.board messages.old trail.old) }
 {
     match board.ldio(messages, trail, processor, device, word) {
         Ok(_) => unreachable!(),
@@ -58,7 +58,7 @@ pub fn collect<A: Device, B: Device>(
     ticket: Ticket,
 ) -> u32
     requires { accepts A.Device.meaning B.Device.meaning (Collect ticket.processor ticket.device) (world A.Device.state B.Device.state board.old.board messages.old trail.old) ≡ true }
-    ensures { world A.Device.state B.Device.state board.new.board messages.new trail.new ≡ (step A.Device.meaning B.Device.meaning (Collect ticket.processor ticket.device) (world A.Device.state B.Device.state board.old.board messages.old trail.old)).1 }
+    ensures { (Ok (Some result), world A.Device.state B.Device.state board.new.board messages.new trail.new) ≡ step A.Device.meaning B.Device.meaning (Collect ticket.processor ticket.device) (world A.Device.state B.Device.state board.old.board messages.old trail.old) }
 {
     match board.collect(messages, trail, ticket) {
         Ok(word) => word,
@@ -74,7 +74,7 @@ pub fn collect_in_vain<A: Device, B: Device>(
     ticket: Ticket,
 ) -> (Fault, Ticket)
     requires { accepts A.Device.meaning B.Device.meaning (Collect ticket.processor ticket.device) (world A.Device.state B.Device.state board.old.board messages.old trail.old) ≡ false }
-    ensures world { world A.Device.state B.Device.state board.new.board messages.new trail.new ≡ (step A.Device.meaning B.Device.meaning (Collect ticket.processor ticket.device) (world A.Device.state B.Device.state board.old.board messages.old trail.old)).1 }
+    ensures step { (Err result.0, world A.Device.state B.Device.state board.new.board messages.new trail.new) ≡ step A.Device.meaning B.Device.meaning (Collect ticket.processor ticket.device) (world A.Device.state B.Device.state board.old.board messages.old trail.old) }
     ensures ticket { result.1 ≡ ticket }
 {
     match board.collect(messages, trail, ticket) {
@@ -91,7 +91,7 @@ pub fn give_up<A: Device, B: Device>(
     ticket: Ticket,
 )
     requires { accepts A.Device.meaning B.Device.meaning (GiveUp ticket.processor ticket.device) (world A.Device.state B.Device.state board.old.board messages.old trail.old) ≡ true }
-    ensures { world A.Device.state B.Device.state board.new.board messages.new trail.new ≡ (step A.Device.meaning B.Device.meaning (GiveUp ticket.processor ticket.device) (world A.Device.state B.Device.state board.old.board messages.old trail.old)).1 }
+    ensures { (Ok None, world A.Device.state B.Device.state board.new.board messages.new trail.new) ≡ step A.Device.meaning B.Device.meaning (GiveUp ticket.processor ticket.device) (world A.Device.state B.Device.state board.old.board messages.old trail.old) }
 {
     match board.give_up(messages, trail, ticket) {
         Ok(()) => (),
