@@ -5,3 +5,4 @@ pub mod Lines
 pub mod Program
 pub mod Scripts
 pub mod Told
+pub mod Written

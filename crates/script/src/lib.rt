@@ -2,8 +2,8 @@
 
 #![tactic(auto)]
 
-pub mod cases;
 pub mod fault;
+pub mod laws;
 pub mod line;
 pub mod outcome;
 pub mod play;

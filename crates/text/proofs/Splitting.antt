@@ -1,8 +1,9 @@
--- The lines of a text begin with the part before its first newline.
-use Rattle.std.proofs.Common.{◌≡◌, ℕ, ◌<◌, ◌==◌, ltb, true, false, cond, List, [], ◌∷◌, length, drop, Some, None, Option, sym, refl, ap, ◌∙◌, arith, length-drop}
+-- The lines of a text begin with the part before its first newline; lines that are written are read back.
+use Rattle.std.proofs.Common.{◌≡◌, ℕ, ◌<◌, ◌==◌, ltb, true, false, cond, List, [], ◌∷◌, ◌++◌, length, drop, Some, None, Option, sym, refl, ap, ◌∙◌, arith, append_assoc, length-drop}
 use Rattle.std.proofs.lemmas.Bool.Decides.{nat_tests}
-use Rattle.std.proofs.lemmas.List.{nil_from_length}
-use Rattle.text.specs.Parts.{before, after, left, begun, lines_of, first_part, other_parts}
+use Rattle.std.proofs.lemmas.List.{append-nil, nil_from_length}
+use Rattle.std.specs.List.{AllByRecursion}
+use Rattle.text.specs.Parts.{before, after, left, begun, lines_of, first_part, other_parts, Whole, ended, LinesAreReadBack}
 
 -- the bytes of a rest, none where there is none
 abbrev bytes_of : Option (List ℕ) → List ℕ
@@ -41,3 +42,25 @@ module _ (bytes : List ℕ) where
       let n = length-drop at bytes in
       let here : left bytes at ≡ Some (drop at bytes) = grind (arith, nat_tests) in
       first_of (drop at bytes) l (left bytes next) (grind (arith, nat_tests)) (rw here at part) (rw here at rest) ∙ ap (λ (xs : List ℕ). l ∷ lines_of xs) (left_bytes next)
+
+-- a line that is ended, and one that is not
+line : (l rest : List ℕ) → Whole l → lines_of (l ++ 10 ∷ rest) ≡ l ∷ lines_of rest
+line [] rest whole = refl
+line (x ∷ xs) rest whole = rw whole.0 (ap (begun x) (line xs rest whole.1))
+
+last : (x : ℕ) (xs : List ℕ) → Whole (x ∷ xs) → lines_of (x ∷ xs) ≡ (x ∷ xs) ∷ []
+last x [] whole = rw whole.0 refl
+last x (y ∷ ys) whole = rw whole.0 (ap (begun x) (last y ys whole.1))
+
+every : (ls : List (List ℕ)) (rest : List ℕ) → AllByRecursion Whole ls → lines_of (ended ls ++ rest) ≡ ls ++ lines_of rest
+every [] rest all = refl
+every (l ∷ ls) rest all =
+    ap lines_of (append_assoc l (10 ∷ ended ls) rest)
+    ∙ line l (ended ls ++ rest) all.0
+    ∙ ap (λ (ms : List (List ℕ)). l ∷ ms) (every ls rest all.1)
+
+pub lines_read : LinesAreReadBack
+lines_read = record {
+  all_ended = λ ls all. ap lines_of (sym (append-nil (ended ls))) ∙ every ls [] all ∙ append-nil ls;
+  last_open = λ ls x xs all whole. every ls (x ∷ xs) all ∙ ap (λ (ms : List (List ℕ)). ls ++ ms) (last x xs whole);
+}

@@ -1,5 +1,6 @@
 -- Parts of a run of bytes: what stands before a mark, and after it; fields and lines.
-use Rattle.std.specs.Prelude.{ℕ, Bool, true, false, cond, List, [], ◌∷◌, length, drop, Some, None, Option, ◌==◌, nat_le}
+use Rattle.std.specs.Prelude.{◌≡◌, ℕ, Bool, true, false, cond, List, [], ◌∷◌, ◌++◌, length, drop, Some, None, Option, ◌==◌, nat_le}
+use Rattle.std.specs.List.{AllByRecursion}
 use Rattle.text.specs.Numbers.{decimal}
 use Rattle.text.specs.declared.fields.Fields.{Fields}
 use Rattle.text.specs.declared.lines.Lines.{Lines}
@@ -56,3 +57,16 @@ lines_of (x ∷ xs) = cond (x == 10) ([] ∷ lines_of xs) (begun x (lines_of xs)
 
 abbrev pub lines_left : Lines → List (List ℕ)
 lines_left l = lines_of (drop l.parts.at l.parts.bytes.now)
+
+-- Lines with no newline in them, each ended by one, are read as they were; so are they where the last lacks it.
+abbrev pub Whole : List ℕ → Type 0
+Whole [] = Unit {0}
+Whole (x ∷ xs) = (x == 10 ≡ false) × Whole xs
+
+abbrev pub ended : List (List ℕ) → List ℕ
+ended [] = []
+ended (l ∷ ls) = l ++ 10 ∷ ended ls
+
+pub record LinesAreReadBack : Type 0 where
+  pub all_ended : (ls : List (List ℕ)) → AllByRecursion Whole ls → lines_of (ended ls) ≡ ls
+  pub last_open : (ls : List (List ℕ)) (x : ℕ) (xs : List ℕ) → AllByRecursion Whole ls → Whole (x ∷ xs) → lines_of (ended ls ++ x ∷ xs) ≡ ls ++ (x ∷ xs) ∷ []

@@ -1,7 +1,7 @@
 //! The number that bytes spell.
 
 ghost use Rattle.std.specs.Prelude.{◌≡◌};
-ghost use Rattle.text.specs.Numbers.{decimal, with_digit};
+ghost use Rattle.text.specs.Numbers.{decimal, with_digit, NumbersAreReadBack};
 
 // The number with one more digit, unless the byte is none or the number leaves 32 bits.
 fn with_digit(number: u32, byte: u8) -> Option<u32>
@@ -27,6 +27,12 @@ pub fn decimal(field: &[u8]) -> Option<u32>
     }
     Some(number)
 }
+
+/// What is written in decimal digits is read as the number that it was.
+#[tactic(auto, using(crate::proofs::Spelling::numbers_read))]
+pub fn numbers_are_read_back()
+    ensures { NumbersAreReadBack }
+{}
 
 #[cfg(test)]
 mod tests {

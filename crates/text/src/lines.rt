@@ -2,7 +2,7 @@
 
 ghost use Rattle.std.specs.Prelude.{◌≡◌};
 ghost use Rattle.std.specs.Iterator.{YieldsFirstBy, item_count};
-ghost use Rattle.text.specs.Parts.{lines_of, lines_left};
+ghost use Rattle.text.specs.Parts.{lines_of, lines_left, LinesAreReadBack};
 
 use crate::parts::Parts;
 
@@ -37,3 +37,9 @@ impl<'a> Iterator for Lines<'a> {
         self.parts.next()
     }
 }
+
+/// Lines that are written, each ended by a newline or the last without it, are read as they were.
+#[tactic(auto, using(crate::proofs::Splitting::lines_read))]
+pub fn lines_are_read_back()
+    ensures { LinesAreReadBack }
+{}
