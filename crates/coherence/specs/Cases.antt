@@ -30,16 +30,23 @@ use Rattle.coherence.specs.declared.fault.NetworkFault.TheVariants.{OlderWaits, 
 abbrev Plates : Type 0
 Plates = Window PlateSetter
 
-abbrev making : ℕ → Making Plates Scanner
-making start = record {
-  processors = 2;
+-- So many processors, a start clock, and the rooms for messages and for the trail.
+abbrev made_of : ℕ → ℕ → ℕ → ℕ → Making Plates Scanner
+made_of processors start messages trail = record {
+  processors = processors;
   clock = start;
   words = replicate 64 0;
   first = window blank_plate 4 8;
   second = blank_scanner;
-  message_room = 64;
-  trail_room = 512;
+  message_room = messages;
+  trail_room = trail;
 }
+
+abbrev making : ℕ → Making Plates Scanner
+making start = made_of 2 start 64 512
+
+abbrev pub answer_on : Making Plates Scanner → List Call → Call → Answer
+answer_on k calls c = (step (window_meaning plate_meaning) scanner_meaning c (run (window_meaning plate_meaning) scanner_meaning k calls).world).0
 
 abbrev pub world_after : ℕ → List Call → World Plates Scanner
 world_after start calls = (run (window_meaning plate_meaning) scanner_meaning (making start) calls).world
@@ -113,6 +120,12 @@ pub record WorkedCases : Type 0 where
   pub owner_loads : answer_after 0 shared (Load 0 0) ≡ Ok (Some 7)
   pub sharer_stamped : stamp_at (world_after 0 loaded) 1 ≡ Some (stamp 5 1 1)
   pub owner_stamped : stamp_at (world_after 0 loaded) 2 ≡ Some (stamp 3 1 0)
+  pub first_argument_told : map (λ c. refused_with (answer_after 0 [] c)) (Request 9 99 9 ∷ StIo 9 9 99 0 ∷ Load 9 99 ∷ []) ≡ replicate 3 (Some (2, 1))
+  pub second_argument_told : map (λ c. refused_with (answer_after 0 [] c)) (Request 0 99 9 ∷ StIo 0 9 99 0 ∷ Load 0 99 ∷ []) ≡ replicate 3 (Some (2, 2))
+  pub third_argument_told : map (λ c. refused_with (answer_after 0 [] c)) (Request 0 0 9 ∷ StIo 0 0 99 0 ∷ []) ≡ replicate 2 (Some (2, 3))
+  pub unfit_told_first : refused_with (answer_on (made_of 5 0 64 512) [] (Load 9 99)) ≡ Some (1, 0)
+  pub messages_full : refused_with (answer_on (made_of 2 0 1 512) (Request 0 0 1 ∷ []) (Request 1 0 1)) ≡ Some (14, 1)
+  pub trail_full_told_first : refused_with (answer_on (made_of 2 1000000000 64 0) (StIo 0 0 1 9 ∷ []) (Deliver 0)) ≡ Some (15, 0)
   pub older_goes_first : refused_with (answer_after 0 (StIo 0 0 1 9 ∷ StIo 0 0 1 8 ∷ []) (Deliver 1)) ≡ Some (9, 0)
   pub number_ends : refused_with (answer_after 1000000000 (StIo 0 0 1 9 ∷ []) (Deliver 0)) ≡ Some (16, 4)
   pub end_itself_is_had : answer_after 999999999 (StIo 0 0 1 9 ∷ []) (Deliver 0) ≡ Ok None
