@@ -19,7 +19,11 @@ fn agrees(rt: &HostRuntime, name: &str) -> io::Result<bool> {
 fn main(rt: HostRuntime) -> io::Result<()> {
     // The first argument is the program's own name.
     for name in env::args(&rt)?.skip(1) {
-        let verdict = if agrees(&rt, &name)? { "agrees" } else { "differs" };
+        let verdict = if agrees(&rt, &name)? {
+            "agrees"
+        } else {
+            "differs"
+        };
         println!(rt; "{name}\t{verdict}")?;
     }
     Ok(())
