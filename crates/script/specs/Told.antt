@@ -1,7 +1,7 @@
 -- What a run of a script tells: an outcome a line, then an entry a line, and last the control sum.
 use Rattle.std.specs.Prelude.{ℕ, ◌+◌, List, [], ◌∷◌, ◌++◌, Some, None, Ok, Err, codes, decimal, slice_index}
 use Rattle.ordering.specs.Operations.{name_of}
-use Rattle.trail.specs.Sums.{control_sum}
+use Rattle.queries.specs.Sums.{control_sum}
 use Rattle.trail.specs.declared.entry.Entry.{Entry}
 use Rattle.script.specs.Faults.{fault_number, fault_place}
 use Rattle.script.specs.declared.outcome.Outcome.{Outcome}

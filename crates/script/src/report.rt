@@ -4,10 +4,10 @@ ghost use Rattle.std.specs.Prelude.{◌≡◌, IfOk, string_bytes};
 ghost use Rattle.script.specs.Told.{report};
 
 use crate::outcome::Outcome;
+use queries::sum::control_sum;
 use std::alloc::{AllocError, Global};
 use std::fmt;
 use trail::entry::Entry;
-use trail::sum::control_sum;
 
 /// An entry of the trail and its number.
 #[derive(Clone, Copy)]

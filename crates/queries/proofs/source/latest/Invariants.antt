@@ -1,6 +1,6 @@
 use Rattle.std.proofs.Common.{◌≡◌, drop}
-use Rattle.trail.specs.Sources.{later, latest}
-use Rattle.trail.proofs.source.latest.Given as goal
+use Rattle.queries.specs.Search.{later, latest}
+use Rattle.queries.proofs.source.latest.Given as goal
 
 abbrev pub invariant-loop-number : goal.invariant-loop-number
 invariant-loop-number l =

@@ -5,10 +5,10 @@ use Rattle.ordering.specs.Stamps.{below}
 use Rattle.ordering.specs.declared.stamp.Stamp.{Stamp}
 use Rattle.std.proofs.lemmas.List.{at_drop_more}
 use Rattle.std.proofs.lemmas.Bool.Decides.{nat_tests}
-use Rattle.trail.specs.Sources.{candidate, later, latest}
+use Rattle.queries.specs.Search.{candidate, later, latest}
 use Rattle.trail.specs.declared.address.Address.{Address}
 use Rattle.trail.specs.declared.entry.Entry.{Entry}
-use Rattle.trail.specs.declared.source.Candidate.{Candidate}
+use Rattle.queries.specs.declared.source.Candidate.{Candidate}
 
 later_none : (x : Option Candidate) → later x None ≡ x
 later_none None = refl

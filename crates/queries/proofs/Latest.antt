@@ -3,15 +3,15 @@ use Rattle.std.proofs.Common.{◌≡◌, ℕ, zero, suc, ◌+◌, ◌<◌, Bool,
 use Rattle.ordering.proofs.Total.{strict_total_order}
 use Rattle.ordering.specs.Stamps.{below}
 use Rattle.ordering.specs.declared.stamp.Stamp.{Stamp}
-use Rattle.std.proofs.lemmas.Bool.{and_parts, and_from}
 use Rattle.std.proofs.lemmas.Bool.Decides.{nat_tests}
 use Rattle.std.specs.List.{slice_get}
-use Rattle.trail.proofs.Choice.{falls}
+use Rattle.queries.proofs.Choice.{falls}
 use Rattle.trail.specs.Addresses.{value_at}
-use Rattle.trail.specs.Sources.{writes_below, later, latest, told, Source, LatestWrite, WritesBelow}
+use Rattle.queries.specs.Search.{later, latest, told, LatestWrite}
+use Rattle.queries.specs.declared.source.Candidate.{Candidate}
+use Rattle.trail.specs.Sources.{writes_below, Source}
 use Rattle.trail.specs.declared.address.Address.{Address}
 use Rattle.trail.specs.declared.entry.Entry.{Entry}
-use Rattle.trail.specs.declared.source.Candidate.{Candidate}
 
 asymmetric : (s t : Stamp) → below s t ≡ true → below t s ≡ false
 asymmetric s t h = grind (arith, nat_tests)
@@ -143,9 +143,3 @@ latest_write trail a s = go (latest a s 0 trail) (chosen a s 0 trail)
           greatest = law.greatest;
           first = λ m e l h w. law.first m e (omega arith) h w;
         }
-
-pub writes_are_below : WritesBelow
-writes_are_below = record {
-  each = λ a s e h. let p = and_parts _ _ h in let q = and_parts _ _ p.0 in (q.0, q.1, p.1);
-  all = λ a s e w c b. and_from _ _ (and_from _ _ w c) b;
-}

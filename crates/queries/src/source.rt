@@ -1,38 +1,12 @@
 //! The source of a word that was read: the write below it with the greatest stamp there.
 
 ghost use Rattle.std.specs.Prelude.{◌≡◌};
-ghost use Rattle.trail.specs.Sources.{candidate, later, latest, source_of, fault_number, fault_place, LatestWrite, WritesBelow};
+ghost use Rattle.queries.specs.Search.{candidate, later, latest, source_of};
 
-use crate::address::Address;
-use crate::entry::Entry;
 use ordering::stamp::Stamp;
-
-/// What `source` was asked for is not there: both are arguments outside their range.
-#[derive(Clone, Copy, Debug, PartialEq, Eq)]
-pub enum SourceFault {
-    NoRead,
-    NoWord,
-}
-
-impl SourceFault {
-    pub fn number(self) -> u32
-        ensures { result ≡ fault_number self }
-    {
-        match self {
-            SourceFault::NoRead | SourceFault::NoWord => 2,
-        }
-    }
-
-    /// Which argument it is, from 1.
-    pub fn place(self) -> u32
-        ensures { result ≡ fault_place self }
-    {
-        match self {
-            SourceFault::NoRead => 1,
-            SourceFault::NoWord => 2,
-        }
-    }
-}
+use trail::address::Address;
+use trail::entry::Entry;
+use trail::fault::SourceFault;
 
 // A write that covers the address, with its number in the trail and its value there.
 #[derive(Clone, Copy)]
@@ -42,15 +16,16 @@ struct Candidate {
     stamp: Stamp,
 }
 
-impl Entry {
-    fn candidate(&self, entry: usize, address: Address, reader: Stamp) -> Option<Candidate>
-        ensures { result ≡ candidate address reader entry self.now }
+impl Candidate {
+    // An entry, if it is a write that covers the address and is below the reader.
+    fn of(number: usize, entry: &Entry, address: Address, reader: Stamp) -> Option<Candidate>
+        ensures { result ≡ candidate address reader number «entry».now }
     {
-        if self.operation.is_write() && self.covers(address) && self.stamp < reader {
+        if entry.operation.is_write() && entry.covers(address) && entry.stamp < reader {
             return Some(Candidate {
-                entry,
-                value: self.value_at(address),
-                stamp: self.stamp,
+                entry: number,
+                value: entry.value_at(address),
+                stamp: entry.stamp,
             });
         }
         None
@@ -75,7 +50,7 @@ fn latest(trail: &[Entry], address: Address, reader: Stamp) -> Option<Candidate>
 {
     let mut best = None;
     for (number, entry) in trail.iter().enumerate() {
-        best = later(best, entry.candidate(number, address, reader));
+        best = later(best, Candidate::of(number, entry, address, reader));
     }
     best
 }
@@ -94,19 +69,6 @@ pub fn source(trail: &[Entry], entry: usize, word: u32) -> Result<Option<(usize,
     let latest = latest(trail, read.address(word), read.stamp);
     Ok(latest.map(|found| (found.entry, found.value)))
 }
-
-/// A source is a write that covers the address, below the reader and with no greater such write, the first of equal
-/// ones; there is none exactly where there is no such write.
-#[tactic(auto, using(crate::proofs::Latest::latest_write))]
-pub fn sources_are_latest()
-    ensures { LatestWrite }
-{}
-
-/// What may be a source is a write that covers the address and is below the reader, and every such write may be.
-#[tactic(auto, using(crate::proofs::Latest::writes_are_below))]
-pub fn sources_are_writes_below()
-    ensures { WritesBelow }
-{}
 
 #[cfg(test)]
 mod tests {

@@ -1,10 +1,10 @@
 //! The control sum of a trail.
 
 ghost use Rattle.std.specs.Prelude.{◌≡◌, ◌^◌, ◌<◌};
-ghost use Rattle.trail.specs.Sums.{words_sum, control_sum};
+ghost use Rattle.queries.specs.Sums.{words_sum, control_sum};
 
-use crate::entry::Entry;
 use ordering::operation::Words;
+use trail::entry::Entry;
 
 fn words_sum(words: Words) -> u64
     ensures value { result ≡ words_sum words }

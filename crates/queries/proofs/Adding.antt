@@ -2,7 +2,7 @@
 use Rattle.std.proofs.Common.{◌≡◌, ℕ, ◌+◌, ◌%◌, ◌^◌, ◌<◌, List, length, get_or, take, sum_by, sym, ap, ◌∙◌}
 use native.Mathlib.Nat.{mod-add-mod}
 use Rattle.std.proofs.lemmas.List.Sums.{sum_by_more}
-use Rattle.trail.specs.Sums.{words_sum, control_sum}
+use Rattle.queries.specs.Sums.{words_sum, control_sum}
 use Rattle.trail.specs.declared.entry.Entry.{Entry}
 
 abbrev values_sum : Entry → ℕ
