@@ -2,7 +2,7 @@
 
 use crate::perform::Outcome;
 use crate::state::Bridge;
-use device::plate_setter::PlateSetter;
+use sweepers::plate_setter::PlateSetter;
 use message::kind::Kind;
 use message::message::Message;
 use ordering::clock::Settle;

@@ -1,8 +1,8 @@
 -- Worked cases, computed: a windowed plate setter and a scanner on a board of two processors with zero memory.
 use Rattle.std.specs.Prelude.{◌≡◌, ℕ, true, List, [], ◌∷◌, map, replicate, Some, None, Ok, Err, Option, slice_index_or}
 use Rattle.bridge.specs.declared.fault.DeviceFault.TheVariants.{NoWish, BadWish, MustWait}
-use Rattle.device.specs.Plates.{PlateSetter, plate_meaning, blank_plate}
-use Rattle.device.specs.Scanners.{Scanner, scanner_meaning, blank_scanner}
+use Rattle.sweepers.specs.Plates.{PlateSetter, plate_meaning, blank_plate}
+use Rattle.sweepers.specs.Scanners.{Scanner, scanner_meaning, blank_scanner}
 use Rattle.device.specs.Windows.{window, window_meaning}
 use Rattle.device.specs.declared.window.Window.{Window}
 use Rattle.message.specs.Messages.{no_message}

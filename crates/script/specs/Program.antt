@@ -3,8 +3,8 @@ use Rattle.std.specs.Prelude.{ℕ, List, [], replicate}
 use Rattle.coherence.specs.Histories.{run}
 use Rattle.coherence.specs.Makings.{Making, make}
 use Rattle.coherence.specs.Promise.{OrderKept}
-use Rattle.device.specs.Plates.{PlateSetter, plate_meaning, blank_plate}
-use Rattle.device.specs.Scanners.{Scanner, scanner_meaning, blank_scanner}
+use Rattle.sweepers.specs.Plates.{PlateSetter, plate_meaning, blank_plate}
+use Rattle.sweepers.specs.Scanners.{Scanner, scanner_meaning, blank_scanner}
 use Rattle.device.specs.Windows.{window, window_meaning}
 use Rattle.device.specs.declared.window.Window.{Window}
 use Rattle.list.specs.Contents.{contents, room}

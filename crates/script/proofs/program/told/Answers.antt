@@ -3,8 +3,8 @@ use Rattle.coherence.specs.Histories.{run}
 use Rattle.coherence.specs.Makings.{Making, make}
 use Rattle.coherence.specs.Promise.{OrderKept}
 use Rattle.coherence.specs.Worlds.{World}
-use Rattle.device.specs.Plates.{plate_meaning, blank_plate}
-use Rattle.device.specs.Scanners.{Scanner, scanner_meaning}
+use Rattle.sweepers.specs.Plates.{plate_meaning, blank_plate}
+use Rattle.sweepers.specs.Scanners.{Scanner, scanner_meaning}
 use Rattle.device.specs.Windows.{window, window_meaning}
 use Rattle.list.specs.Contents.{contents, room}
 use Rattle.script.specs.Lines.{script_lines}

@@ -4,10 +4,10 @@ use Rattle.std.specs.List.{AllByRecursion}
 use Rattle.device.specs.declared.meaning.Wish.{Wish}
 use Rattle.device.specs.Events.{Event, reads, writes, accepts, lands, after, accepted_in}
 use Rattle.device.specs.Meaning.{Meaning}
-use Rattle.device.specs.Plates.{PlateSetter, fetching, plate_meaning}
-use Rattle.device.specs.Scanners.{Scanner, storing, scanner_meaning}
-use Rattle.device.specs.Tasks.{Task, first_block, block_count, last_wish}
 use Rattle.device.specs.Windows.{window, window_meaning}
+use Rattle.sweepers.specs.Plates.{PlateSetter, fetching, plate_meaning}
+use Rattle.sweepers.specs.Scanners.{Scanner, storing, scanner_meaning}
+use Rattle.sweepers.specs.Tasks.{Task, first_block, block_count, last_wish}
 
 -- Of n blocks from f, once k wishes were accepted: block f + k while k is below n, then the interrupt, then none.
 abbrev pub due : Task → ℕ → ℕ → ℕ → List ℕ → Option Wish

@@ -2,9 +2,9 @@
 use Rattle.std.specs.Prelude.{ℕ, ◌+◌, ◌%◌, ◌^◌, cond, Some, None, Option, ◌==◌, nat_lt}
 use Rattle.std.specs.Option.{option_map, option_and_then}
 use Rattle.device.specs.declared.meaning.Wish.{Wish}
-use Rattle.device.specs.declared.sweep.Sweep.{Sweep}
-use Rattle.device.specs.declared.sweep.Stage.{Stage}
-use Rattle.device.specs.declared.sweep.Stage.TheVariants.{Block, Interrupt}
+use Rattle.sweepers.specs.declared.sweep.Sweep.{Sweep}
+use Rattle.sweepers.specs.declared.sweep.Stage.{Stage}
+use Rattle.sweepers.specs.declared.sweep.Stage.TheVariants.{Block, Interrupt}
 
 abbrev pub sweep : ℕ → ℕ → ℕ → Sweep
 sweep f n k = record { first = f; count = n; position = k }

@@ -1,7 +1,7 @@
 //! A sweep: blocks in turn from a first one, as many as were asked for, and then an interrupt.
 
 ghost use Rattle.std.specs.Prelude.{◌≡◌};
-ghost use Rattle.device.specs.Sweeps.{commanded, advanced, stage_of};
+ghost use Rattle.sweepers.specs.Sweeps.{commanded, advanced, stage_of};
 
 /// A sweep that was started, and how many of its blocks were accepted.
 #[derive(Clone, Copy)]

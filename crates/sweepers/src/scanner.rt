@@ -3,11 +3,11 @@
 
 ghost use Rattle.std.specs.Prelude.{◌≡◌};
 ghost use Rattle.std.proofs.Common.{rules};
-ghost use Rattle.device.specs.Scanners.{stored, row_from};
+ghost use Rattle.sweepers.specs.Scanners.{stored, row_from};
 
-use crate::meaning::Wish;
-use crate::registers::Registers;
 use crate::sweeper::{Job, Sweeper};
+use device::meaning::Wish;
+use device::registers::Registers;
 use ordering::operation::{Operation, Words};
 
 pub type Scanner = Sweeper<Storing, 8>;

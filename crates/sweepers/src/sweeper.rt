@@ -3,14 +3,14 @@
 
 ghost use Rattle.std.specs.Prelude.{◌≡◌, ℕ, ◌+◌, ◌≤◌, List, length};
 ghost use Rattle.device.specs.declared.meaning.Wish.{Wish};
-ghost use Rattle.device.specs.declared.sweeper.Sweeper.{Sweeper};
-ghost use Rattle.device.specs.Sweepers.{blank, sweeper_meaning};
-ghost use Rattle.device.specs.Tasks.{task};
 ghost use Rattle.std.proofs.Common.{rules};
+ghost use Rattle.sweepers.specs.declared.sweeper.Sweeper.{Sweeper};
+ghost use Rattle.sweepers.specs.Sweepers.{blank, sweeper_meaning};
+ghost use Rattle.sweepers.specs.Tasks.{task};
 
-use crate::meaning::{Device, NoWord, Wish};
-use crate::registers::Registers;
 use crate::sweep::{Stage, Sweep};
+use device::meaning::{Device, NoWord, Wish};
+use device::registers::Registers;
 use ordering::operation::Words;
 use std::marker::PhantomData;
 

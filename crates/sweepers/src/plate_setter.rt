@@ -2,11 +2,11 @@
 //! Of its 12 words the first four are service words; the sweep's stand from word 4.
 
 ghost use Rattle.std.proofs.Common.{rules};
-ghost use Rattle.device.specs.Plates.{fetched};
+ghost use Rattle.sweepers.specs.Plates.{fetched};
 
-use crate::meaning::Wish;
-use crate::registers::Registers;
 use crate::sweeper::{Job, Sweeper};
+use device::meaning::Wish;
+use device::registers::Registers;
 use ordering::operation::{Operation, Words};
 
 pub type PlateSetter = Sweeper<Fetching, 12>;

@@ -3,10 +3,10 @@ use Rattle.std.specs.Prelude.{◌≡◌, ℕ, List, [], ◌∷◌, Some, None, O
 use Rattle.ordering.specs.Words.{no_words}
 use Rattle.ordering.specs.declared.operation.Operation.TheVariants.{LdBlk, StBlk}
 use Rattle.device.specs.Events.{Event, writes, accepts, after}
-use Rattle.device.specs.Plates.{plate_meaning, blank_plate}
-use Rattle.device.specs.Scanners.{scanner_meaning, blank_scanner}
 use Rattle.device.specs.Wishes.{block_wish, interrupt_wish}
 use Rattle.device.specs.declared.meaning.Wish.{Wish}
+use Rattle.sweepers.specs.Plates.{plate_meaning, blank_plate}
+use Rattle.sweepers.specs.Scanners.{scanner_meaning, blank_scanner}
 
 -- One block from block 3, then processor 2: words 5, 6 and 7, and the command in word 4.
 abbrev plate_at : List Event → Option Wish

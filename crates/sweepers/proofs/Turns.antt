@@ -5,12 +5,12 @@ use Rattle.std.proofs.lemmas.Bool.Decides.{nat_tests}
 use Rattle.std.specs.List.{AllByRecursion as All}
 use Rattle.ordering.specs.declared.operation.Words.{Words}
 use Rattle.device.specs.declared.meaning.Wish.{Wish}
-use Rattle.device.specs.declared.sweep.Sweep.{Sweep}
-use Rattle.device.specs.Courses.{due, Leaves, told, Sweeps}
 use Rattle.device.specs.Events.{Event, reads, writes, accepts, lands, follow, after, accepted_in}
 use Rattle.device.specs.Meaning.{Meaning}
-use Rattle.device.specs.Tasks.{Task, first_block, block_count, last_wish}
-use Rattle.device.specs.Sweeps.{sweep, commanded, went_on, wished}
+use Rattle.sweepers.specs.declared.sweep.Sweep.{Sweep}
+use Rattle.sweepers.specs.Courses.{due, Leaves, told, Sweeps}
+use Rattle.sweepers.specs.Tasks.{Task, first_block, block_count, last_wish}
+use Rattle.sweepers.specs.Sweeps.{sweep, commanded, went_on, wished}
 
 -- A sweep by itself.
 abbrev steps : ℕ → Option Sweep → Option Sweep

@@ -3,12 +3,12 @@ use Rattle.std.specs.Prelude.{ℕ, List}
 use Rattle.ordering.specs.declared.operation.Operation.TheVariants.{LdBlk}
 use Rattle.ordering.specs.Words.{no_words}
 use Rattle.device.specs.declared.meaning.Wish.{Wish}
-use Rattle.device.specs.declared.plate_setter.Fetching.{Fetching}
-use Rattle.device.specs.declared.sweeper.Sweeper.{Sweeper}
 use Rattle.device.specs.Meaning.{Meaning}
-use Rattle.device.specs.Sweepers.{blank, sweeper_meaning}
-use Rattle.device.specs.Tasks.{Task, task}
 use Rattle.device.specs.Wishes.{block_wish}
+use Rattle.sweepers.specs.declared.plate_setter.Fetching.{Fetching}
+use Rattle.sweepers.specs.declared.sweeper.Sweeper.{Sweeper}
+use Rattle.sweepers.specs.Sweepers.{blank, sweeper_meaning}
+use Rattle.sweepers.specs.Tasks.{Task, task}
 
 abbrev pub PlateSetter : Type 0
 PlateSetter = Sweeper Fetching 12

@@ -1,24 +1,17 @@
-//! What devices do over many calls: words are what was written to them, and sweeps come in turn.
-//! The functions do nothing; what they promise is proved.
+//! What sweeping devices do over many calls: their wishes come in turn. The functions do nothing; what they promise is
+//! proved.
 
 ghost use Rattle.std.specs.Prelude.{◌≡◌};
-ghost use Rattle.device.specs.Cases.{WorkedSweeps};
-ghost use Rattle.device.specs.Courses.{PlateSetterSweeps, ScannerSweeps, WindowedPlateSetterSweeps};
-ghost use Rattle.device.specs.Events.{WordsAsWritten};
-ghost use Rattle.device.specs.Plates.{plate_meaning};
-ghost use Rattle.device.specs.Scanners.{scanner_meaning};
 ghost use Rattle.device.specs.Windows.{window_meaning};
+ghost use Rattle.sweepers.specs.Cases.{WorkedSweeps};
+ghost use Rattle.sweepers.specs.Courses.{PlateSetterSweeps, ScannerSweeps, WindowedPlateSetterSweeps};
+ghost use Rattle.sweepers.specs.Plates.{plate_meaning};
+ghost use Rattle.sweepers.specs.Scanners.{scanner_meaning};
 
-use crate::meaning::Device;
 use crate::plate_setter::PlateSetter;
 use crate::scanner::Scanner;
-use crate::window::Window;
-
-/// Over any calls the words of any device are what was written to them.
-#[tactic(auto, using(crate::proofs::Written::words_as_written))]
-pub fn words_are_as_written<D: Device>()
-    ensures { WordsAsWritten D.Device.meaning }
-{}
+use device::meaning::Device;
+use device::window::Window;
 
 /// After command 1 the plate setter wishes for LDblk of each block in turn, for the INT with value 1, and for
 /// nothing; after any other command for nothing.

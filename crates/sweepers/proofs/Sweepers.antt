@@ -1,18 +1,18 @@
 -- Sweeping devices, and the plate setter behind its window, follow their sweep.
 use Rattle.std.proofs.Common.{◌≡◌, ℕ, ◌+◌, ◌<◌, false, eqb, List, Some, None, Option, get_or, drop, refl, ap, ◌∙◌, arith, get_or-drop, get_or-take}
 use Rattle.std.proofs.lemmas.Bool.{eq-eqb, ne_eqb}
-use Rattle.device.specs.declared.sweep.Stage.{Stage}
-use Rattle.device.specs.declared.sweep.Stage.TheVariants.{Block, Interrupt}
-use Rattle.device.specs.declared.sweep.Sweep.{Sweep}
-use Rattle.device.specs.declared.sweeper.Sweeper.{Sweeper}
 use Rattle.device.specs.declared.window.Window.{Window}
-use Rattle.device.specs.Courses.{Sweeps, WindowedPlateSetterSweeps}
-use Rattle.device.specs.Plates.{PlateSetter, fetching, plate_meaning}
-use Rattle.device.specs.Sweepers.{sweeper_meaning}
-use Rattle.device.specs.Sweeps.{commanded, went_on, stage_of, wished_at}
-use Rattle.device.specs.Tasks.{Task, last_wish}
 use Rattle.device.specs.Windows.{window, over, window_words, window_meaning, shown, moved, moved_wish}
-use Rattle.device.proofs.Turns.{sweeps, wish_at}
+use Rattle.sweepers.specs.declared.sweep.Stage.{Stage}
+use Rattle.sweepers.specs.declared.sweep.Stage.TheVariants.{Block, Interrupt}
+use Rattle.sweepers.specs.declared.sweep.Sweep.{Sweep}
+use Rattle.sweepers.specs.declared.sweeper.Sweeper.{Sweeper}
+use Rattle.sweepers.specs.Courses.{Sweeps, WindowedPlateSetterSweeps}
+use Rattle.sweepers.specs.Plates.{PlateSetter, fetching, plate_meaning}
+use Rattle.sweepers.specs.Sweepers.{sweeper_meaning}
+use Rattle.sweepers.specs.Sweeps.{commanded, went_on, stage_of, wished_at}
+use Rattle.sweepers.specs.Tasks.{Task, last_wish}
+use Rattle.sweepers.proofs.Turns.{sweeps, wish_at}
 
 -- A sweeping device is at the sweep that it holds.
 abbrev sweeper_at : {J : Type 0} {n : ℕ} → Option Sweep → Sweeper J n → Type 0

@@ -1,11 +1,11 @@
 -- The meaning of a sweeping device, from its task.
 use Rattle.std.specs.Prelude.{ℕ, cond, None, Option, ◌==◌}
 use Rattle.device.specs.declared.meaning.Wish.{Wish}
-use Rattle.device.specs.declared.sweeper.Sweeper.{Sweeper}
 use Rattle.device.specs.Meaning.{Meaning}
-use Rattle.device.specs.Sweeps.{commanded, went_on, wished}
 use Rattle.device.specs.Registers.{zeros, after_write}
-use Rattle.device.specs.Tasks.{Task, first_block, block_count, last_wish}
+use Rattle.sweepers.specs.declared.sweeper.Sweeper.{Sweeper}
+use Rattle.sweepers.specs.Sweeps.{commanded, went_on, wished}
+use Rattle.sweepers.specs.Tasks.{Task, first_block, block_count, last_wish}
 
 abbrev pub blank : {J : Type 0} (n : ℕ) → Sweeper J n
 blank n = record { words = zeros n; sweep = None; job = record {} }
