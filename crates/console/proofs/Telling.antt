@@ -1,8 +1,9 @@
 -- One line more is written: what was written and what is left are all of it still.
 use Rattle.std.proofs.Common.{◌≡◌, ℕ, ◌+◌, ◌<◌, List, ◌∷◌, ◌++◌, length, drop, get_or, sym, ap, ◌∙◌, append_assoc, add-one, drop-cons}
 use Rattle.trail.specs.declared.entry.Entry.{Entry}
-use Rattle.script.specs.Told.{newline, outcome_line, outcome_lines, row_line, rows_from}
+use Rattle.script.specs.Told.{newline, outcome_line}
 use Rattle.script.specs.declared.outcome.Outcome.{Outcome}
+use Rattle.console.specs.Report.{outcome_lines, row_line, rows_from}
 
 regrouped : (done line rest : List ℕ) → (done ++ (line ++ newline)) ++ rest ≡ done ++ (line ++ (newline ++ rest))
 regrouped done line rest = append_assoc done (line ++ newline) rest ∙ ap (λ (t : List ℕ). done ++ t) (append_assoc line newline rest)

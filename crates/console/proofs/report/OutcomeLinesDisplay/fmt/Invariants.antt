@@ -1,7 +1,7 @@
 use Rattle.std.proofs.Common.{◌≡◌, ℕ, List, ◌++◌, drop}
 use Rattle.std.specs.Fmt.{HasWritten, IsPlainFormatter}
-use Rattle.script.specs.Told.{outcome_lines}
-use Rattle.script.proofs.report.OutcomeLinesDisplay.fmt.Given as goal
+use Rattle.console.specs.Report.{outcome_lines}
+use Rattle.console.proofs.report.OutcomeLinesDisplay.fmt.Given as goal
 
 -- what is written, and the lines of the outcomes that are left
 abbrev pub invariant-loop-outcome : goal.invariant-loop-outcome

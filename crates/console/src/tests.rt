@@ -1,13 +1,13 @@
 //! A plate setter behind a bridge, from its command to its interrupt.
 
-use crate::perform::Outcome;
-use crate::state::Bridge;
-use sweepers::plate_setter::PlateSetter;
+use bridge::perform::Outcome;
+use bridge::state::Bridge;
 use message::kind::Kind;
 use message::message::Message;
 use ordering::clock::Settle;
 use ordering::operation::Words;
 use std::test::Fail;
+use sweepers::plate_setter::PlateSetter;
 
 fn message(kind: Kind, sender: u32, place: u32, word: u32, clock: u32) -> Message<u32> {
     Message {

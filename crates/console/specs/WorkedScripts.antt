@@ -1,6 +1,6 @@
 -- Worked scripts, computed from their bytes to the text that is told.
 use Rattle.std.specs.Prelude.{◌≡◌, ◌++◌, List, ℕ, codes}
-use Rattle.script.specs.Program.{output_of}
+use Rattle.console.specs.Program.{output_of}
 
 abbrev pub listing : List ℕ
 listing = codes "M\t1\t0\nW\t0\t0\t1\t9\nG\t0\nR\t0\t0\t1\nG\t0\nG\t0\nC\t0\t0\nC\t0\t0\n"

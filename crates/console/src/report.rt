@@ -1,10 +1,10 @@
 //! What a run of a script tells: an outcome a line, then an entry a line, and last the control sum.
 
 ghost use Rattle.std.specs.Prelude.{◌≡◌, IfOk, string_bytes};
-ghost use Rattle.script.specs.Told.{report};
+ghost use Rattle.console.specs.Report.{report};
 
-use crate::outcome::Outcome;
 use queries::sum::control_sum;
+use script::outcome::Outcome;
 use std::alloc::{AllocError, Global};
 use std::fmt;
 use trail::entry::Entry;
@@ -19,7 +19,7 @@ pub struct Row {
 /// Number, party, sequence number, operation, space, place, first value, global, local, node.
 impl fmt::Display for Row {
     ghost use Rattle.std.specs.Prelude.{Some};
-    ghost use Rattle.script.specs.Told.{row_line};
+    ghost use Rattle.console.specs.Report.{row_line};
 
     ghost output = { λ row. Some (row_line row.number row.«entry») };
 
@@ -54,7 +54,7 @@ struct OutcomeLines<'a> {
 
 impl fmt::Display for OutcomeLines<'_> {
     ghost use Rattle.std.specs.Prelude.{Some};
-    ghost use Rattle.script.specs.Told.{outcome_lines};
+    ghost use Rattle.console.specs.Report.{outcome_lines};
 
     ghost output = { λ lines. Some (outcome_lines lines.outcomes.now) };
 
@@ -73,7 +73,7 @@ struct Rows<'a> {
 
 impl fmt::Display for Rows<'_> {
     ghost use Rattle.std.specs.Prelude.{Some};
-    ghost use Rattle.script.specs.Told.{rows_from};
+    ghost use Rattle.console.specs.Report.{rows_from};
 
     ghost output = { λ rows. Some (rows_from 0 rows.trail.now) };
 
@@ -97,7 +97,7 @@ struct Report<'o, 't> {
 
 impl fmt::Display for Report<'_, '_> {
     ghost use Rattle.std.specs.Prelude.{Some};
-    ghost use Rattle.script.specs.Told.{report};
+    ghost use Rattle.console.specs.Report.{report};
 
     ghost output = { λ told. Some (report told.outcomes.now told.trail.now) };
 

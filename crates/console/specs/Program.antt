@@ -13,8 +13,8 @@ use Rattle.message.specs.declared.message.Message.{Message}
 use Rattle.trail.specs.declared.entry.Entry.{Entry}
 use Rattle.script.specs.Lines.{Text, script_lines}
 use Rattle.script.specs.Scripts.{calls_of, later, noted, script_making, script_outcomes}
-use Rattle.script.specs.Told.{report}
 use Rattle.script.specs.declared.outcome.Outcome.{Outcome}
+use Rattle.console.specs.Report.{report}
 
 abbrev pub Plates : Type 0
 Plates = Window PlateSetter

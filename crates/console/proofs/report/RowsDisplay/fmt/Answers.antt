@@ -1,9 +1,10 @@
 use Rattle.std.proofs.Common.{◌++◌, get_or, rules}
 use Rattle.std.proofs.Output.{has_written_append}
 use Rattle.trail.specs.Addresses.{no_entry}
-use Rattle.script.proofs.Telling.{row_told}
-use Rattle.script.specs.Told.{newline, row_line}
-use Rattle.script.proofs.report.RowsDisplay.fmt.Goals as goal
+use Rattle.script.specs.Told.{newline}
+use Rattle.console.proofs.Telling.{row_told}
+use Rattle.console.specs.Report.{row_line}
+use Rattle.console.proofs.report.RowsDisplay.fmt.Goals as goal
 
 pub loop-number-preserved : goal.loop-number-preserved
 loop-number-preserved g c = λ plain.

@@ -1,7 +1,7 @@
 -- The worked scripts, by computing.
 use Rattle.std.proofs.Common.{refl}
 use Rattle.std.specs.Fmt.{digits}
-use Rattle.script.specs.Cases.{WorkedScripts}
+use Rattle.console.specs.WorkedScripts.{WorkedScripts}
 
 pub worked : WorkedScripts
 unfolding digits

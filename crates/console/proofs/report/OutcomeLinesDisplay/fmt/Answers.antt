@@ -1,8 +1,8 @@
 use Rattle.std.proofs.Common.{◌++◌, get_or, rules, Ok, None}
 use Rattle.std.proofs.Output.{has_written_append}
-use Rattle.script.proofs.Telling.{outcome_told}
 use Rattle.script.specs.Told.{newline, outcome_line}
-use Rattle.script.proofs.report.OutcomeLinesDisplay.fmt.Goals as goal
+use Rattle.console.proofs.Telling.{outcome_told}
+use Rattle.console.proofs.report.OutcomeLinesDisplay.fmt.Goals as goal
 
 pub loop-outcome-preserved : goal.loop-outcome-preserved
 loop-outcome-preserved g c = λ plain.

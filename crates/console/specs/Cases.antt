@@ -1,10 +1,9 @@
 -- Worked cases, computed: a windowed plate setter and a scanner on a board of two processors with zero memory.
 use Rattle.std.specs.Prelude.{◌≡◌, ℕ, true, List, [], ◌∷◌, map, replicate, Some, None, Ok, Err, Option, slice_index_or}
 use Rattle.bridge.specs.declared.fault.DeviceFault.TheVariants.{NoWish, BadWish, MustWait}
-use Rattle.sweepers.specs.Plates.{PlateSetter, plate_meaning, blank_plate}
+use Rattle.sweepers.specs.Plates.{plate_meaning, blank_plate}
 use Rattle.sweepers.specs.Scanners.{Scanner, scanner_meaning, blank_scanner}
 use Rattle.device.specs.Windows.{window, window_meaning}
-use Rattle.device.specs.declared.window.Window.{Window}
 use Rattle.message.specs.Messages.{no_message}
 use Rattle.message.specs.declared.kind.Kind.TheVariants as kind
 use Rattle.ordering.specs.Clocks.{passed}
@@ -26,9 +25,7 @@ use Rattle.coherence.specs.declared.fault.BoardFault.TheVariants.{NotFit, Argume
 use Rattle.coherence.specs.declared.fault.Fault.{Fault}
 use Rattle.coherence.specs.declared.fault.Fault.TheVariants.{Device, Network, Board}
 use Rattle.coherence.specs.declared.fault.NetworkFault.TheVariants.{OlderWaits, NoRule, MessagesFull}
-
-abbrev Plates : Type 0
-Plates = Window PlateSetter
+use Rattle.console.specs.Program.{Plates}
 
 -- So many processors, a start clock, and the rooms for messages and for the trail.
 abbrev made_of : ℕ → ℕ → ℕ → ℕ → Making Plates Scanner

@@ -8,12 +8,12 @@ use Rattle.sweepers.specs.Scanners.{Scanner, scanner_meaning}
 use Rattle.device.specs.Windows.{window, window_meaning}
 use Rattle.list.specs.Contents.{contents, room}
 use Rattle.script.specs.Lines.{script_lines}
-use Rattle.script.specs.Program.{Plates, board_making}
 use Rattle.script.specs.Scripts.{calls_of, later, noted, script_making, script_outcomes}
-use Rattle.script.specs.Told.{report}
 use Rattle.script.specs.declared.outcome.Outcome.{Outcome}
 use Rattle.trail.specs.declared.entry.Entry.{Entry}
-use Rattle.script.proofs.program.told.Goals as goal
+use Rattle.console.specs.Program.{Plates, board_making}
+use Rattle.console.specs.Report.{report}
+use Rattle.console.proofs.program.told.Goals as goal
 
 pub returns : goal.returns
 returns c =

@@ -1,7 +1,7 @@
 use Rattle.std.proofs.Common.{◌≡◌, ℕ, List, ◌++◌, drop}
 use Rattle.std.specs.Fmt.{HasWritten, IsPlainFormatter}
-use Rattle.script.specs.Told.{rows_from}
-use Rattle.script.proofs.report.RowsDisplay.fmt.Given as goal
+use Rattle.console.specs.Report.{rows_from}
+use Rattle.console.proofs.report.RowsDisplay.fmt.Given as goal
 
 -- what is written, and the rows of the entries that are left
 abbrev pub invariant-loop-number : goal.invariant-loop-number

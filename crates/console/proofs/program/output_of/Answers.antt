@@ -2,10 +2,10 @@ use Rattle.std.proofs.Common.{◌≡◌, ℕ, Ok, Err, Result, IfOk, OnOk, strin
 use Rattle.list.specs.declared.storage.List.{List as Records}
 use Rattle.message.specs.declared.message.Message.{Message}
 use Rattle.script.specs.Lines.{script_lines}
-use Rattle.script.specs.Program.{Kept, empty, told}
 use Rattle.script.specs.declared.outcome.Outcome.{Outcome}
 use Rattle.trail.specs.declared.entry.Entry.{Entry}
-use Rattle.script.proofs.program.output_of.Goals as goal
+use Rattle.console.specs.Program.{Kept, empty, told}
+use Rattle.console.proofs.program.output_of.Goals as goal
 
 on_ok : {T E : Type 0} (r : Result T E) (P : Type 0) → P → OnOk r P
 on_ok (Ok x) P p = p

@@ -2,18 +2,18 @@
 
 ghost use Rattle.std.specs.Prelude.{◌≡◌, IfOk, OnOk, string_bytes};
 ghost use Rattle.script.specs.Lines.{script_lines};
-ghost use Rattle.script.specs.Program.{told, output_of, Kept, empty};
+ghost use Rattle.console.specs.Program.{told, output_of, Kept, empty};
 
-use crate::outcome::Outcome;
-use crate::play::play;
 use crate::report::report_of;
-use sweepers::plate_setter::PlateSetter;
-use sweepers::scanner::Scanner;
 use device::window::Window;
 use list::{List, Record};
 use message::kind::Kind;
 use message::message::Message;
+use script::outcome::Outcome;
+use script::play::play;
 use std::alloc::{AllocError, Global};
+use sweepers::plate_setter::PlateSetter;
+use sweepers::scanner::Scanner;
 use trail::entry::Entry;
 
 // Device 0 is a plate setter behind a window of 8 words from word 4, and device 1 a scanner.
