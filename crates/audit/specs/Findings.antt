@@ -1,7 +1,7 @@
 -- What the audit finds of one word of a read, and the line that tells it.
 use Rattle.std.specs.Prelude.{ℕ, cond, List, ◌++◌, length, Some, None, Ok, Err, codes, decimal, Option, ◌==◌, nat_lt, slice_index_or}
+use Rattle.queries.specs.Search.{source_of}
 use Rattle.trail.specs.Addresses.{no_entry, address_of, value_at}
-use Rattle.trail.specs.Sources.{source_of}
 use Rattle.trail.specs.declared.entry.Entry.{Entry}
 use Rattle.audit.specs.declared.finding.Finding.{Finding}
 

@@ -3,9 +3,9 @@
 ghost use Rattle.std.specs.Prelude.{◌≡◌};
 ghost use Rattle.audit.specs.Findings.{found_of, judged};
 
+use queries::source::source;
 use std::fmt;
 use trail::entry::Entry;
-use trail::source::source;
 
 /// The read, which of its words, what it got there, and where that came from.
 #[derive(Clone, Copy)]

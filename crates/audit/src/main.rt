@@ -4,12 +4,12 @@
 
 use finding::audited;
 use list::{List, Record};
+use queries::sum::control_sum;
 use record::entry_of;
 use std::io;
 use std::io::Read;
 use text::Lines;
 use trail::entry::Entry;
-use trail::sum::control_sum;
 
 mod finding;
 mod record;

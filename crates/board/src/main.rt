@@ -2,7 +2,7 @@
 
 #![tactic(auto)]
 
-use script::program::output_of;
+use console::program::output_of;
 use std::io;
 use std::io::Read;
 

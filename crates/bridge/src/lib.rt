@@ -10,5 +10,3 @@ pub mod perform;
 pub mod plan;
 pub mod receive;
 pub mod state;
-#[cfg(test)]
-mod tests;

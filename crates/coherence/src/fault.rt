@@ -2,13 +2,13 @@
 
 ghost use Rattle.std.specs.Prelude.{◌≡◌};
 ghost use Rattle.coherence.specs.Faults.{fault_layer, fault_number, fault_place};
-ghost use Rattle.trail.specs.Sources as source;
+ghost use Rattle.trail.specs.Faults as source;
 ghost use Rattle.coherence.specs.declared.fault.BoardFault.TheVariants.{Argument, Refused};
 ghost use Rattle.coherence.specs.declared.fault.Fault.TheVariants.{Device, Network, Board};
 
 use bridge::fault::DeviceFault;
 use processor::refusal::Refusal;
-use trail::source::SourceFault;
+use trail::fault::SourceFault;
 
 #[derive(Clone, Copy)]
 pub enum NetworkFault {

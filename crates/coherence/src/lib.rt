@@ -3,6 +3,5 @@
 #![tactic(auto)]
 
 pub mod call;
-pub mod cases;
 pub mod fault;
 pub mod promise;

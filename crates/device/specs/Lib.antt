@@ -1,13 +1,6 @@
-pub mod Cases
-pub mod Courses
 pub mod Events
 pub mod Meaning
-pub mod Plates
 pub mod Registers
-pub mod Scanners
-pub mod Sweepers
-pub mod Sweeps
-pub mod Tasks
+pub mod Showing
 pub mod Windows
 pub mod Wishes
-pub mod Showing

@@ -1,12 +1,8 @@
-//! Devices: what a device means, two devices that sweep blocks, and a window over any device.
+//! Devices: what a device means, registers to build one from, and a window over any device.
 
 #![tactic(auto)]
 
-pub mod course;
+pub mod laws;
 pub mod meaning;
-pub mod plate_setter;
 pub mod registers;
-pub mod scanner;
-mod sweep;
-pub mod sweeper;
 pub mod window;

@@ -5,9 +5,10 @@ use Rattle.coherence.specs.declared.fault.BoardFault.TheVariants.{NotFit, Argume
 use Rattle.coherence.specs.declared.fault.Fault.{Fault}
 use Rattle.coherence.specs.declared.fault.Fault.TheVariants.{Network, Board}
 use Rattle.coherence.specs.declared.fault.NetworkFault.TheVariants.{MessagesFull}
-use Rattle.trail.specs.Sources.{source_of, fault_place}
+use Rattle.queries.specs.Search.{source_of}
+use Rattle.trail.specs.Faults.{fault_place}
 use Rattle.trail.specs.declared.entry.Entry.{Entry}
-use Rattle.trail.specs.declared.source.SourceFault.{SourceFault}
+use Rattle.trail.specs.declared.fault.SourceFault.{SourceFault}
 
 -- A word was told.
 abbrev pub told : Result ℕ Fault → Answer

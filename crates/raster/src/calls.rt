@@ -16,8 +16,8 @@ use coherence::fault::Fault;
 use device::meaning::Device;
 use list::List;
 use message::message::Message;
+use queries::source::source;
 use trail::entry::Entry;
-use trail::source::source;
 
 #[tactic(auto, using(crate::proofs::Going::goes_on))]
 impl<A: Device, B: Device> Board<A, B> {

@@ -2,7 +2,7 @@
 
 #![tactic(auto)]
 
-use script::program::output_of;
+use console::program::output_of;
 use std::{env, fs, io};
 
 // Whether a script comes out as it is told.

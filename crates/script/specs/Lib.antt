@@ -1,8 +1,6 @@
-pub mod Cases
 pub mod Faults
 pub mod Forms
 pub mod Lines
-pub mod Program
 pub mod Scripts
 pub mod Told
 pub mod Written

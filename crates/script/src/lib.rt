@@ -7,6 +7,4 @@ pub mod laws;
 pub mod line;
 pub mod outcome;
 pub mod play;
-pub mod program;
 pub mod reader;
-pub mod report;

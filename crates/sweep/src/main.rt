@@ -10,11 +10,11 @@ mod told;
 use act::act;
 use copier::Copier;
 use device::meaning::{Device, NoWord};
-use device::plate_setter::PlateSetter;
-use device::scanner::Scanner;
 use device::window::Window;
 use order::Order;
 use std::io;
+use sweepers::plate_setter::PlateSetter;
+use sweepers::scanner::Scanner;
 use told::Told;
 
 fn report(rt: &impl Print, done: Result<(), NoWord>) -> io::Result<()> {

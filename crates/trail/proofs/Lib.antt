@@ -1,4 +1,2 @@
-pub mod Adding
-pub mod Choice
 pub mod Covering
-pub mod Latest
+pub mod Sources

@@ -1,3 +1,3 @@
 pub mod Addresses
+pub mod Faults
 pub mod Sources
-pub mod Sums

@@ -1,7 +1,7 @@
 //! Addresses: a word of a space. A block's words have figures of up to 34 bits.
 
 ghost use Rattle.std.specs.Prelude.{◌≡◌};
-ghost use Rattle.trail.specs.Addresses.{address_of, covers, value_at, has_word, CoversOwnWords};
+ghost use Rattle.trail.specs.Addresses.{address_of, covers, value_at, has_word};
 
 use crate::entry::Entry;
 
@@ -63,9 +63,3 @@ impl Entry {
         self.values.at[0]
     }
 }
-
-/// An entry covers the addresses of its words, with its values there, and no others.
-#[tactic(auto, using(crate::proofs::Covering::covers_own_words))]
-pub fn entries_cover_their_words()
-    ensures { CoversOwnWords }
-{}

@@ -1,8 +1,8 @@
-//! The trail: every operation that was done, and where each word that was read came from.
+//! The trail: every operation that was done, the addresses that it went to, and what the source of a read is.
 
 #![tactic(auto)]
 
 pub mod address;
 pub mod entry;
-pub mod source;
-pub mod sum;
+pub mod fault;
+pub mod laws;

@@ -1,0 +1,4 @@
+pub mod Cases
+pub mod Program
+pub mod Report
+pub mod WorkedScripts

@@ -1,0 +1,9 @@
+//! The program's own board: which devices it has, what it tells of a script, and worked cases and scripts on it.
+
+#![tactic(auto)]
+
+pub mod laws;
+pub mod program;
+pub mod report;
+#[cfg(test)]
+mod tests;

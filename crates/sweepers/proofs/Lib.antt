@@ -1,0 +1,2 @@
+pub mod Sweepers
+pub mod Turns
