@@ -1,12 +1,14 @@
 -- The world that a board and its two lists are. The devices show their states.
-use Rattle.std.specs.Prelude.{ℕ, Bool, ◌&&◌, List as Seq, map, Some, None, Option, ◌==◌, nat_le}
+use Rattle.std.specs.Prelude.{ℕ, Bool, ◌&&◌, if◌then◌else◌, List as Seq, [], ◌∷◌, length, map, Some, None, Option, ◌==◌, nat_le, nat_lt}
 use Rattle.bridge.specs.States.{view}
 use Rattle.coherence.specs.Makings.{Making, block_words}
 use Rattle.coherence.specs.Worlds.{World}
+use Rattle.device.specs.declared.meaning.Device.{Ghosts}
 use Rattle.home.specs.Homes.{new_home}
 use Rattle.home.specs.declared.machine.Home.{Home}
 use Rattle.list.specs.Contents.{contents, room, removed}
 use Rattle.list.specs.declared.storage.List.{List}
+use Rattle.message.specs.declared.figures.Figures.{Figures}
 use Rattle.message.specs.declared.message.Message.{Message}
 use Rattle.ordering.specs.Clocks.{number_end}
 use Rattle.std.specs.List.{range_with_len}
@@ -26,6 +28,14 @@ world first second b ms es = record {
   message_room = room ms;
   trail_room = room es;
 }
+
+module _ {A B : Type 0} (a : Ghosts A) (b : Ghosts B) where
+  -- The words of a device; every number but 0 stands for the second.
+  abbrev pub device_words : Board A B → ℕ → Seq ℕ
+  device_words x d = if nat_lt d 1 then a.meaning.words (a.state x.first.device) else b.meaning.words (b.state x.second.device)
+
+  abbrev pub board_figures : Board A B → Figures
+  board_figures x = record { processors = x.tables.count; counts = length (device_words x 0) ∷ (length (device_words x 1) ∷ []) }
 
 -- What waits once the delivered message, if any, is taken out.
 abbrev pub left : {T : Type 0} → Seq T → Option ℕ → Seq T

@@ -72,6 +72,22 @@ fn reach_at<D: Device>(
     commit_plan(bridge, messages, trail, Some(place), number, plan)
 }
 
+#[tactic(auto, using(crate::proofs::Going::did))]
+impl<A: Device, B: Device> Board<A, B> {
+    /// Hands the message at a place over to its receiver.
+    pub fn deliver(
+        &mut self,
+        messages: &mut List<Message>,
+        trail: &mut List<Entry>,
+        place: u32,
+    ) -> Result<(), Fault>
+        ensures { Did A.Device B.Device self.old messages.old trail.old
+            (Deliver place) (done_answer result) self.new messages.new trail.new }
+    {
+        self.deliver_step(messages, trail, place)
+    }
+}
+
 impl<A: Device, B: Device> Board<A, B> {
     fn figures(&self) -> Figures
         ensures { result ≡ record { processors = self.now.tables.count; counts = length (A.Device.meaning.words (A.Device.state self.now.first.device)) ∷ (length (B.Device.meaning.words (B.Device.state self.now.second.device)) ∷ []) } }
@@ -151,13 +167,14 @@ impl<A: Device, B: Device> Board<A, B> {
         }
     }
 
-    pub(crate) fn deliver_step(
+    fn deliver_step(
         &mut self,
         messages: &mut List<Message>,
         trail: &mut List<Entry>,
         place: u32,
     ) -> Result<(), Fault>
-        ensures { (done result, world A.Device.state B.Device.state self.new messages.new trail.new) ≡ step A.Device.meaning B.Device.meaning (Deliver place) (world A.Device.state B.Device.state self.old messages.old trail.old) }
+        ensures { Stepped A.Device B.Device self.old messages.old trail.old
+            (Deliver place) (done_answer result) self.new messages.new trail.new }
     {
         self.check_fit()?;
         let place = place as usize;

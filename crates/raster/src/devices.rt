@@ -36,15 +36,32 @@ fn act_at<D: Device>(
     commit_plan(bridge, messages, trail, None, number, plan)
 }
 
+#[tactic(auto, using(crate::proofs::Going::did))]
 impl<A: Device, B: Device> Board<A, B> {
-    #[tactic(auto, using(crate::proofs::Lifting::first_wish, crate::proofs::Lifting::second_wish))]
-    pub(crate) fn act_step(
+    /// Does the wish of a device.
+    pub fn act(
         &mut self,
         messages: &mut List<Message>,
         trail: &mut List<Entry>,
         device: u32,
     ) -> Result<(), Fault>
-        ensures { (done result, world A.Device.state B.Device.state self.new messages.new trail.new) ≡ step A.Device.meaning B.Device.meaning (Act device) (world A.Device.state B.Device.state self.old messages.old trail.old) }
+        ensures { Did A.Device B.Device self.old messages.old trail.old
+            (Act device) (done_answer result) self.new messages.new trail.new }
+    {
+        self.act_step(messages, trail, device)
+    }
+}
+
+impl<A: Device, B: Device> Board<A, B> {
+    #[tactic(auto, using(crate::proofs::Lifting::first_wish, crate::proofs::Lifting::second_wish))]
+    fn act_step(
+        &mut self,
+        messages: &mut List<Message>,
+        trail: &mut List<Entry>,
+        device: u32,
+    ) -> Result<(), Fault>
+        ensures { Stepped A.Device B.Device self.old messages.old trail.old
+            (Act device) (done_answer result) self.new messages.new trail.new }
     {
         self.check_fit()?;
         check_below(device, 2, 1)?;

@@ -6,7 +6,6 @@
 
 pub mod board;
 mod calls;
-mod check;
 mod commit;
 mod deliveries;
 mod devices;
@@ -14,6 +13,4 @@ mod making;
 mod post;
 mod processors;
 pub mod run;
-mod tables;
 pub mod ticket;
-mod ticketed;

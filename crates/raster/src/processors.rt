@@ -1,17 +1,17 @@
-//! What the calls of processors do: the checks in the order of their numbers, the processor's reaction, one commit.
-//! Each does what the definition of a step says, and a refusal touches nothing.
+//! The calls of processors: the checks in the order of their numbers, the processor's reaction, one commit.
+//! The steps stand in functions of their own, since a body with many returns would owe what a call says at each.
 
-ghost use Rattle.std.specs.Prelude.{◌≡◌, ◌<◌, true, length, if◌then◌else◌, Ok, OnOk, nat_lt, slice_index_or};
-ghost use Rattle.coherence.specs.Steps.{check, argument, step};
+ghost use Rattle.std.specs.Prelude.{◌≡◌, ◌<◌, true, length, Ok, OnOk, nat_lt, slice_index_or};
+ghost use Rattle.coherence.specs.Steps.{check, argument};
 ghost use Rattle.coherence.specs.Worlds.{no_processor};
 ghost use Rattle.coherence.specs.declared.call.Call.TheVariants.{Load, Store, Request, LdIo, StIo, Collect, GiveUp, Poll};
 ghost use Rattle.coherence.specs.declared.fault.BoardFault.TheVariants.{NotFit};
 ghost use Rattle.coherence.specs.declared.fault.Fault.TheVariants as fault;
-ghost use Rattle.raster.specs.Answers.{told, done};
-ghost use Rattle.raster.specs.Boards.{world};
+ghost use Rattle.raster.specs.Answers.{word_answer, done_answer};
+ghost use Rattle.raster.specs.Boards.{device_words};
+ghost use Rattle.raster.specs.Calls.{Stepped, Did};
 
-use crate::board::Board;
-use crate::check::check_below;
+use crate::board::{Board, check_below};
 use coherence::fault::{BoardFault, Fault};
 use device::meaning::Device;
 use list::List;
@@ -20,10 +20,132 @@ use message::message::Message;
 use processor::state::Processor;
 use trail::entry::Entry;
 
+#[tactic(auto, using(crate::proofs::Going::did))]
+impl<A: Device, B: Device> Board<A, B> {
+    /// Does an LD on a line that is S or X, and tells the word.
+    pub fn load(
+        &mut self,
+        messages: &mut List<Message>,
+        trail: &mut List<Entry>,
+        processor: u32,
+        word: u32,
+    ) -> Result<u32, Fault>
+        ensures { Did A.Device B.Device self.old messages.old trail.old
+            (Load processor word) (word_answer result) self.new messages.new trail.new }
+    {
+        self.load_step(messages, trail, processor, word)
+    }
+
+    /// Does an ST on a line that is X.
+    pub fn store(
+        &mut self,
+        messages: &mut List<Message>,
+        trail: &mut List<Entry>,
+        processor: u32,
+        word: u32,
+        value: u32,
+    ) -> Result<(), Fault>
+        ensures { Did A.Device B.Device self.old messages.old trail.old
+            (Store processor word value) (done_answer result) self.new messages.new trail.new }
+    {
+        self.store_step(messages, trail, processor, word, value)
+    }
+
+    // By rule any number may be given for the kind.
+    /// Asks the home of a block for GETS, GETX, UPG or WB: kinds 1 to 4.
+    pub fn request(
+        &mut self,
+        messages: &mut List<Message>,
+        trail: &mut List<Entry>,
+        processor: u32,
+        block: u32,
+        kind: u32,
+    ) -> Result<(), Fault>
+        ensures { Did A.Device B.Device self.old messages.old trail.old
+            (Request processor block kind) (done_answer result) self.new messages.new trail.new }
+    {
+        self.request_step(messages, trail, processor, block, kind)
+    }
+
+    /// Asks a device for one of its words, and takes the slot for it.
+    pub fn ldio(
+        &mut self,
+        messages: &mut List<Message>,
+        trail: &mut List<Entry>,
+        processor: u32,
+        device: u32,
+        word: u32,
+    ) -> Result<(), Fault>
+        ensures { Did A.Device B.Device self.old messages.old trail.old
+            (LdIo processor device word) (done_answer result) self.new messages.new trail.new }
+    {
+        self.ldio_step(messages, trail, processor, device, word)
+    }
+
+    /// Sends a device a value for one of its words.
+    pub fn stio(
+        &mut self,
+        messages: &mut List<Message>,
+        trail: &mut List<Entry>,
+        processor: u32,
+        device: u32,
+        word: u32,
+        value: u32,
+    ) -> Result<(), Fault>
+        ensures { Did A.Device B.Device self.old messages.old trail.old
+            (StIo processor device word value) (done_answer result) self.new messages.new trail.new }
+    {
+        self.stio_step(messages, trail, processor, device, word, value)
+    }
+
+    /// Tells the word that came from a device, and frees the slot.
+    pub fn collect(
+        &mut self,
+        messages: &mut List<Message>,
+        trail: &mut List<Entry>,
+        processor: u32,
+        device: u32,
+    ) -> Result<u32, Fault>
+        ensures { Did A.Device B.Device self.old messages.old trail.old
+            (Collect processor device) (word_answer result) self.new messages.new trail.new }
+    {
+        self.collect_step(messages, trail, processor, device)
+    }
+
+    /// Lets the slot for a device go: at once if its word came, else once it comes.
+    pub fn give_up(
+        &mut self,
+        messages: &mut List<Message>,
+        trail: &mut List<Entry>,
+        processor: u32,
+        device: u32,
+    ) -> Result<(), Fault>
+        ensures { Did A.Device B.Device self.old messages.old trail.old
+            (GiveUp processor device) (done_answer result) self.new messages.new trail.new }
+    {
+        self.give_up_step(messages, trail, processor, device)
+    }
+
+    /// Tells the latest interrupt word that was not polled, or none.
+    pub fn poll(
+        &mut self,
+        messages: &mut List<Message>,
+        trail: &mut List<Entry>,
+        processor: u32,
+    ) -> Result<Option<u32>, Fault>
+        ensures { Did A.Device B.Device self.old messages.old trail.old
+            (Poll processor) result self.new messages.new trail.new }
+    {
+        self.poll_step(messages, trail, processor)
+    }
+}
+
 impl<A: Device, B: Device> Board<A, B> {
     // A processor of a board that is fit; its number is every call's first argument.
     fn processor(&self, number: u32) -> Result<Processor, Fault>
-        ensures value { result ≡ check self.now.tables.fit (fault.Board NotFit) (check (nat_lt number self.now.tables.count) (argument 1) (Ok (slice_index_or self.now.tables.processors number no_processor))) }
+        ensures value { result ≡ check self.now.tables.fit (fault.Board NotFit)
+            (check (nat_lt number self.now.tables.count) (argument 1)
+            (Ok (slice_index_or self.now.tables.processors number no_processor))) }
         ensures place { OnOk result (number < 4) }
     {
         self.check_fit()?;
@@ -31,35 +153,26 @@ impl<A: Device, B: Device> Board<A, B> {
         Ok(self.tables.processors[number as usize])
     }
 
-    // How many words a device has; every number but 0 stands for the second.
-    pub(crate) fn word_count(&self, device: u32) -> u32
-        ensures { result ≡ length (if nat_lt device 1 then A.Device.meaning.words (A.Device.state self.now.first.device) else B.Device.meaning.words (B.Device.state self.now.second.device)) }
-    {
-        if device < 1 {
-            self.first.device.count()
-        } else {
-            self.second.device.count()
-        }
-    }
-
     // A word of a device: the second and the third argument.
     fn check_device_word(&self, device: u32, word: u32) -> Result<(), Fault>
-        ensures value { result ≡ check (nat_lt device 2) (argument 2) (check (nat_lt word (length (if nat_lt device 1 then A.Device.meaning.words (A.Device.state self.now.first.device) else B.Device.meaning.words (B.Device.state self.now.second.device)))) (argument 3) (Ok tt)) }
+        ensures value { result ≡ check (nat_lt device 2) (argument 2)
+            (check (nat_lt word (length (device_words A.Device B.Device self.now device))) (argument 3) (Ok tt)) }
         ensures device { OnOk result (nat_lt device 2 ≡ true) }
-        ensures word { OnOk result (nat_lt word (length (if nat_lt device 1 then A.Device.meaning.words (A.Device.state self.now.first.device) else B.Device.meaning.words (B.Device.state self.now.second.device))) ≡ true) }
+        ensures word { OnOk result (nat_lt word (length (device_words A.Device B.Device self.now device)) ≡ true) }
     {
         check_below(device, 2, 2)?;
         check_below(word, self.word_count(device), 3)
     }
 
-    pub(crate) fn load_step(
+    fn load_step(
         &mut self,
         messages: &mut List<Message>,
         trail: &mut List<Entry>,
         processor: u32,
         word: u32,
     ) -> Result<u32, Fault>
-        ensures { (told result, world A.Device.state B.Device.state self.new messages.new trail.new) ≡ step A.Device.meaning B.Device.meaning (Load processor word) (world A.Device.state B.Device.state self.old messages.old trail.old) }
+        ensures { Stepped A.Device B.Device self.old messages.old trail.old
+            (Load processor word) (word_answer result) self.new messages.new trail.new }
     {
         let state = self.processor(processor)?;
         check_below(word, 64, 2)?;
@@ -68,7 +181,7 @@ impl<A: Device, B: Device> Board<A, B> {
         Ok(answer.unwrap_or(0))
     }
 
-    pub(crate) fn store_step(
+    fn store_step(
         &mut self,
         messages: &mut List<Message>,
         trail: &mut List<Entry>,
@@ -76,7 +189,8 @@ impl<A: Device, B: Device> Board<A, B> {
         word: u32,
         value: u32,
     ) -> Result<(), Fault>
-        ensures { (done result, world A.Device.state B.Device.state self.new messages.new trail.new) ≡ step A.Device.meaning B.Device.meaning (Store processor word value) (world A.Device.state B.Device.state self.old messages.old trail.old) }
+        ensures { Stepped A.Device B.Device self.old messages.old trail.old
+            (Store processor word value) (done_answer result) self.new messages.new trail.new }
     {
         let state = self.processor(processor)?;
         check_below(word, 64, 2)?;
@@ -85,7 +199,7 @@ impl<A: Device, B: Device> Board<A, B> {
         Ok(())
     }
 
-    pub(crate) fn request_step(
+    fn request_step(
         &mut self,
         messages: &mut List<Message>,
         trail: &mut List<Entry>,
@@ -93,7 +207,8 @@ impl<A: Device, B: Device> Board<A, B> {
         block: u32,
         kind: u32,
     ) -> Result<(), Fault>
-        ensures { (done result, world A.Device.state B.Device.state self.new messages.new trail.new) ≡ step A.Device.meaning B.Device.meaning (Request processor block kind) (world A.Device.state B.Device.state self.old messages.old trail.old) }
+        ensures { Stepped A.Device B.Device self.old messages.old trail.old
+            (Request processor block kind) (done_answer result) self.new messages.new trail.new }
     {
         let state = self.processor(processor)?;
         check_below(block, 16, 2)?;
@@ -103,7 +218,7 @@ impl<A: Device, B: Device> Board<A, B> {
         Ok(())
     }
 
-    pub(crate) fn ldio_step(
+    fn ldio_step(
         &mut self,
         messages: &mut List<Message>,
         trail: &mut List<Entry>,
@@ -111,7 +226,8 @@ impl<A: Device, B: Device> Board<A, B> {
         device: u32,
         word: u32,
     ) -> Result<(), Fault>
-        ensures { (done result, world A.Device.state B.Device.state self.new messages.new trail.new) ≡ step A.Device.meaning B.Device.meaning (LdIo processor device word) (world A.Device.state B.Device.state self.old messages.old trail.old) }
+        ensures { Stepped A.Device B.Device self.old messages.old trail.old
+            (LdIo processor device word) (done_answer result) self.new messages.new trail.new }
     {
         let state = self.processor(processor)?;
         self.check_device_word(device, word)?;
@@ -120,7 +236,7 @@ impl<A: Device, B: Device> Board<A, B> {
         Ok(())
     }
 
-    pub(crate) fn stio_step(
+    fn stio_step(
         &mut self,
         messages: &mut List<Message>,
         trail: &mut List<Entry>,
@@ -129,7 +245,8 @@ impl<A: Device, B: Device> Board<A, B> {
         word: u32,
         value: u32,
     ) -> Result<(), Fault>
-        ensures { (done result, world A.Device.state B.Device.state self.new messages.new trail.new) ≡ step A.Device.meaning B.Device.meaning (StIo processor device word value) (world A.Device.state B.Device.state self.old messages.old trail.old) }
+        ensures { Stepped A.Device B.Device self.old messages.old trail.old
+            (StIo processor device word value) (done_answer result) self.new messages.new trail.new }
     {
         let state = self.processor(processor)?;
         self.check_device_word(device, word)?;
@@ -138,14 +255,15 @@ impl<A: Device, B: Device> Board<A, B> {
         Ok(())
     }
 
-    pub(crate) fn collect_step(
+    fn collect_step(
         &mut self,
         messages: &mut List<Message>,
         trail: &mut List<Entry>,
         processor: u32,
         device: u32,
     ) -> Result<u32, Fault>
-        ensures { (told result, world A.Device.state B.Device.state self.new messages.new trail.new) ≡ step A.Device.meaning B.Device.meaning (Collect processor device) (world A.Device.state B.Device.state self.old messages.old trail.old) }
+        ensures { Stepped A.Device B.Device self.old messages.old trail.old
+            (Collect processor device) (word_answer result) self.new messages.new trail.new }
     {
         let state = self.processor(processor)?;
         check_below(device, 2, 2)?;
@@ -154,14 +272,15 @@ impl<A: Device, B: Device> Board<A, B> {
         Ok(answer.unwrap_or(0))
     }
 
-    pub(crate) fn give_up_step(
+    fn give_up_step(
         &mut self,
         messages: &mut List<Message>,
         trail: &mut List<Entry>,
         processor: u32,
         device: u32,
     ) -> Result<(), Fault>
-        ensures { (done result, world A.Device.state B.Device.state self.new messages.new trail.new) ≡ step A.Device.meaning B.Device.meaning (GiveUp processor device) (world A.Device.state B.Device.state self.old messages.old trail.old) }
+        ensures { Stepped A.Device B.Device self.old messages.old trail.old
+            (GiveUp processor device) (done_answer result) self.new messages.new trail.new }
     {
         let state = self.processor(processor)?;
         check_below(device, 2, 2)?;
@@ -170,13 +289,14 @@ impl<A: Device, B: Device> Board<A, B> {
         Ok(())
     }
 
-    pub(crate) fn poll_step(
+    fn poll_step(
         &mut self,
         messages: &mut List<Message>,
         trail: &mut List<Entry>,
         processor: u32,
     ) -> Result<Option<u32>, Fault>
-        ensures { (result, world A.Device.state B.Device.state self.new messages.new trail.new) ≡ step A.Device.meaning B.Device.meaning (Poll processor) (world A.Device.state B.Device.state self.old messages.old trail.old) }
+        ensures { Stepped A.Device B.Device self.old messages.old trail.old
+            (Poll processor) result self.new messages.new trail.new }
     {
         let state = self.processor(processor)?;
         let reaction = state.poll();
