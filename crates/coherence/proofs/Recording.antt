@@ -5,7 +5,6 @@ use Rattle.std.specs.Option.{option_to_list}
 use Rattle.coherence.proofs.Stepping.{after, settles}
 use Rattle.coherence.specs.Histories.{History, issues, told_number, tells, answered, called_on, after_calls}
 use Rattle.coherence.specs.Steps.{Effect, effect, waiting}
-use Rattle.coherence.specs.Worlds.{World}
 use Rattle.coherence.specs.declared.call.Call.{Call}
 
 module _ {A B : Type 0} (ma : Meaning A) (mb : Meaning B) where
