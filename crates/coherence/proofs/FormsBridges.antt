@@ -126,21 +126,7 @@ module _ {S : Type 0} (m : Meaning S) (f : Figures) (d : ℕ) (device : is_devic
     by_kind kind.Done is = replied_well kind.Wblk (Finish x.sender x.place) (from_home f x form kind.Done is refl)
     by_kind kind.Words is = replied_well kind.Rblk (Land x.sender x.place x.words) (from_home f x form kind.Words is refl)
     by_kind kind.Nack is = refused_well is x.refused refl
-    by_kind kind.Gets is = tt
-    by_kind kind.Getx is = tt
-    by_kind kind.Upg is = tt
-    by_kind kind.Wb is = tt
-    by_kind kind.Rblk is = tt
-    by_kind kind.Wblk is = tt
-    by_kind kind.Int is = tt
-    by_kind kind.Inv is = tt
-    by_kind kind.Down is = tt
-    by_kind kind.Ack is = tt
-    by_kind kind.SData is = tt
-    by_kind kind.XData is = tt
-    by_kind kind.Grant is = tt
-    by_kind kind.Value is = tt
-    by_kind kind.Taken is = tt
+    by_kind _ is = tt
 
   performed_sends : (b : Bridge S ℕ) (p : Plan ℕ) → PlanWell f d p → bridge_within (performed m d b p).next ≡ true → All (Well f) (sent (performed m d b p).sent)
   performed_sends b p well within = grind (arith, nat_tests)
