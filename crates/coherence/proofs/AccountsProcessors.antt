@@ -6,7 +6,7 @@ use Rattle.message.specs.declared.kind.Kind.TheVariants as kind
 use Rattle.message.specs.declared.message.Message.{Message}
 use Rattle.ordering.specs.declared.operation.Operation.TheVariants as operation
 use Rattle.ordering.specs.declared.order.Access.{Access}
-use Rattle.processor.specs.Inputs.{Input, message_of, Load, Store, Request, Ldio, Stio, Collect, GiveUp, Poll, Receive}
+use Rattle.processor.specs.Inputs.{Input, message_of, Load, Store, Request, Ldio, Stio, Receive}
 use Rattle.processor.specs.Laws.{EachReaction}
 use Rattle.processor.specs.Lines.{line_at}
 use Rattle.std.proofs.lemmas.Bool.Decides.{nat_tests}

@@ -20,7 +20,6 @@ use Rattle.message.specs.declared.kind.Kind.TheVariants as kind
 use Rattle.message.specs.declared.message.Message.{Message}
 use Rattle.message.specs.declared.reaction.Reaction.{Reaction}
 use Rattle.ordering.specs.declared.operation.Operation.{Operation}
-use Rattle.ordering.specs.declared.operation.Operation.TheVariants.{Ld, St, LdIo, StIo, Int, LdBlk, StBlk}
 use Rattle.std.proofs.lemmas.Bool.Decides.{nat_tests}
 use Rattle.coherence.proofs.Arising.{never}
 use Rattle.coherence.proofs.Carrying.{carries, done_as, is_block_request, refuses_block}
@@ -46,8 +45,7 @@ module _ {S : Type 0} (m : Meaning S) where
 
   wish_number : (o : Operation) (b : Bridge S ℕ) (d ps : ℕ) (h : Wish) (r : Reaction (Bridge S ℕ)) → decided d b (act_on o m d ps b h) ≡ Some r → (n q : ℕ)
       → Counts n q (eqb (device_node d) n && eqb b.sequence q) r
-  wish_number Ld b d ps h r is n q = grind (arith, nat_tests)
-  wish_number _ b d ps h r is n q = grind (arith, nat_tests)
+  wish_number o b d ps h r is n q = grind (arith, nat_tests)
 
   pub wishes_number : (b : Bridge S ℕ) (d ps : ℕ) (r : Reaction (Bridge S ℕ)) → reaction m d b (Act ps) ≡ Some r → (n q : ℕ) → Counts n q (eqb (device_node d) n && eqb b.sequence q) r
   wishes_number b d ps r is n q = go (m.wish b.device) is

@@ -6,7 +6,7 @@ use Rattle.message.specs.Nodes.{home_node}
 use Rattle.message.specs.declared.kind.Kind.{Kind}
 use Rattle.message.specs.declared.message.Message.{Message}
 use Rattle.message.specs.declared.reaction.Reaction.{Reaction}
-use Rattle.processor.specs.Inputs.{reaction, message_of, Load, Store, Request, Ldio, Stio, Collect, GiveUp, Poll, Receive}
+use Rattle.processor.specs.Inputs.{reaction, message_of, Request}
 use Rattle.processor.specs.Laws.{EachReaction}
 use Rattle.processor.specs.Calls.{fits}
 use Rattle.processor.specs.Lines.{line_at}

@@ -24,7 +24,7 @@ use Rattle.coherence.specs.Promise.{Stands}
 use Rattle.coherence.specs.Steps.{Effect, waiting}
 use Rattle.coherence.specs.Worlds.{World, home_at}
 use Rattle.coherence.specs.declared.call.Call.{Call}
-use Rattle.coherence.specs.declared.call.Call.TheVariants.{Load, Store, Request, LdIo, StIo, Collect, GiveUp, Act, Deliver, Poll}
+use Rattle.coherence.specs.declared.call.Call.TheVariants.{Deliver}
 
 pairs_append : {X : Type 0} (R : X → X → Type 0) (xs ys : List X) → Pairs R xs → Pairs R ys → ((x y : X) → Stands xs x → Stands ys y → R x y) → Pairs R (xs ++ ys)
 pairs_append R [] ys px py across = py

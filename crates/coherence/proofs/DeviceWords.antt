@@ -9,7 +9,7 @@ use Rattle.message.specs.declared.message.Message.{Message}
 use Rattle.ordering.specs.Operations.{is, is_write, is_block}
 use Rattle.ordering.specs.Words.{first_word}
 use Rattle.ordering.specs.declared.operation.Operation.{Operation}
-use Rattle.ordering.specs.declared.operation.Operation.TheVariants.{Ld, St, LdIo, StIo, Int, LdBlk, StBlk}
+use Rattle.ordering.specs.declared.operation.Operation.TheVariants.{LdIo, StIo}
 use Rattle.ordering.specs.declared.operation.Words.{Words}
 use Rattle.processor.specs.Laws.{EachReaction}
 use Rattle.std.proofs.lemmas.List.{append-nil, get_or-set_same, get_or-set_other}

@@ -33,7 +33,7 @@ use Rattle.coherence.specs.Makings.{Making, make, block_words}
 use Rattle.coherence.specs.Steps.{Effect, figures, waiting, step}
 use Rattle.coherence.specs.Worlds.{World, processor_at, home_at, no_home}
 use Rattle.coherence.specs.declared.call.Call.{Call}
-use Rattle.coherence.specs.declared.call.Call.TheVariants.{Load, Store, Request, LdIo, StIo, Collect, GiveUp, Act, Deliver, Poll}
+use Rattle.coherence.specs.declared.call.Call.TheVariants.{Deliver}
 
 abbrev pub HomesWell : {A B : Type 0} → Figures → World A B → Type 0
 HomesWell f w = (b : ℕ) → b < 16 → HomeWell f b (home_at w b)

@@ -9,7 +9,7 @@ use Rattle.bridge.specs.Plans.{plan_within}
 use Rattle.bridge.specs.Receipts.{asked, asked_access, replied, again, refused, receive_kind}
 use Rattle.bridge.specs.declared.fault.DeviceFault.{DeviceFault}
 use Rattle.bridge.specs.declared.plan.Deed.{Deed}
-use Rattle.bridge.specs.declared.plan.Deed.TheVariants.{Load, Store, Interrupt, Request, Read, Write, Land, Finish, Resend}
+use Rattle.bridge.specs.declared.plan.Deed.TheVariants.{Interrupt, Request, Read, Write, Land, Finish, Resend}
 use Rattle.bridge.specs.declared.plan.Plan.{Plan}
 use Rattle.bridge.specs.declared.state.Bridge.{Bridge}
 use Rattle.device.specs.Meaning.{Meaning}
@@ -43,15 +43,13 @@ Allowed f d (Receive x) = Well f x × (x.receiver ≡ device_node d)
 
 -- What a deed sends is well formed.
 abbrev DeedWell : Figures → ℕ → Deed → Type 0
-DeedWell f d (Load a) = Unit {0}
-DeedWell f d (Store a v) = Unit {0}
 DeedWell f d (Interrupt x) = Well f x
 DeedWell f d (Request x) = Well f x
 DeedWell f d (Read a) = (ltb a.place (word_count f (device_node d)) ≡ true) × (has_processor f a.party ≡ true)
-DeedWell f d (Write a v) = Unit {0}
 DeedWell f d (Land h k ws) = (h ≡ home_node k) × (k < 16)
 DeedWell f d (Finish h k) = (h ≡ home_node k) × (k < 16)
 DeedWell f d (Resend x) = Well f x
+DeedWell f d _ = Unit {0}
 
 abbrev PlanWell : Figures → ℕ → Plan ℕ → Type 0
 PlanWell f d p = plan_within p ≡ true → DeedWell f d p.deed

@@ -19,7 +19,7 @@ use Rattle.ordering.specs.Clocks.{number_end}
 use Rattle.ordering.specs.Words.{no_words, one_word, first_word}
 use Rattle.ordering.specs.declared.operation.Words.{Words}
 use Rattle.processor.specs.Calls.{to_device}
-use Rattle.processor.specs.Inputs.{Input, Load, Store, Request, Ldio, Stio, Collect, GiveUp, Poll, Receive, reaction}
+use Rattle.processor.specs.Inputs.{Input, Request, Ldio, Stio, Receive, reaction}
 use Rattle.processor.specs.Lines.{line_at}
 use Rattle.processor.specs.Receive.{Outcome, giving_way, invalidated, downgraded, taking, taking_line, granted, nacked, fetched, fetched_from, receive_kind}
 use Rattle.processor.specs.Slots.{slot_at}
@@ -36,15 +36,10 @@ use Rattle.coherence.proofs.FormsBuilt.{Well, fits_by, home_end, taken_well, fro
 
 -- What may come to a processor: a word that the device has, and messages that are well formed.
 abbrev pub Allowed : Figures → Input → Type 0
-Allowed f (Load w) = Unit {0}
-Allowed f (Store w v) = Unit {0}
-Allowed f (Request b k) = Unit {0}
 Allowed f (Ldio d w) = ltb w (word_count f (device_node d)) ≡ true
 Allowed f (Stio d w v) = ltb w (word_count f (device_node d)) ≡ true
-Allowed f (Collect d) = Unit {0}
-Allowed f (GiveUp d) = Unit {0}
-Allowed f Poll = Unit {0}
 Allowed f (Receive m) = Well f m
+Allowed f _ = Unit {0}
 
 abbrev SendsWell : Figures → Reaction (Processor ℕ) → Type 0
 SendsWell f r = numbers_within r.next ≡ true → All (Well f) (sent r.sent)
@@ -88,10 +83,8 @@ module _ (f : Figures) (n : ℕ) (own : has_processor f n ≡ true) where
   fetch_well s d v c (slot.Came u) is = rw (is, fetched) tt
 
   value_well : (s : Processor ℕ) (from v c : ℕ) (x : Option Node) → node_numbered from ≡ x → ToldWell f (fetched_from s from v c)
-  value_well s from v c None is = rw (is, fetched_from) tt
-  value_well s from v c (Some (node.Processor p)) is = rw (is, fetched_from) tt
   value_well s from v c (Some (node.Device d)) is = rw (is, fetched_from) (fetch_well s d v c (slot_at s.slots d) refl)
-  value_well s from v c (Some (node.Home b)) is = rw (is, fetched_from) tt
+  value_well s from v c _ is = rw (is, fetched_from) tt
 
   module _ (s : Processor ℕ) (m : Message ℕ) (well : Well f m) where
     by_kind : (k : Kind) → m.kind ≡ k → ToldWell f (receive_kind k s n m)

@@ -22,7 +22,7 @@ use Rattle.coherence.specs.Promise.{Stands}
 use Rattle.coherence.specs.Steps.{Effect, waiting}
 use Rattle.coherence.specs.Worlds.{World, home_at}
 use Rattle.coherence.specs.declared.call.Call.{Call}
-use Rattle.coherence.specs.declared.call.Call.TheVariants.{Load, Store, Request, LdIo, StIo, Collect, GiveUp, Act, Deliver, Poll}
+use Rattle.coherence.specs.declared.call.Call.TheVariants.{Deliver}
 
 onward_global : (c d : Clock ℕ) → (d ≡ c) ⊎ Earlier c d → c.global ≤ d.global
 onward_global c d (inl same) = let g = ap (λ (k : Clock ℕ). k.global) same in omega arith

@@ -6,7 +6,7 @@ use Rattle.message.specs.declared.message.Message.{Message}
 use Rattle.message.specs.declared.reaction.Reaction.{Reaction}
 use Rattle.processor.proofs.Stamping.{clocks_go_on}
 use Rattle.message.proofs.Tables.{put_read}
-use Rattle.processor.specs.Inputs.{Input, Load, Store, Request, Ldio, Stio, Collect, GiveUp, Poll, Receive}
+use Rattle.processor.specs.Inputs.{Input, Load, Store, Request, Receive}
 use Rattle.processor.specs.Laws.{EachReaction}
 use Rattle.processor.specs.Lines.{line_at, block_of}
 use Rattle.processor.specs.Receive.{receive}
@@ -22,12 +22,8 @@ abbrev pub Touches : ℕ → Input → Type 0
 Touches b (Load w) = block_of w ≡ b
 Touches b (Store w v) = block_of w ≡ b
 Touches b (Request a k) = a ≡ b
-Touches b (Ldio d w) = ⊥
-Touches b (Stio d w v) = ⊥
-Touches b (Collect d) = ⊥
-Touches b (GiveUp d) = ⊥
-Touches b Poll = ⊥
 Touches b (Receive m) = about b m ≡ true
+Touches b _ = ⊥
 
 pub lines_elsewhere : (b : ℕ) → EachReaction (λ s n i r. (Touches b i → ⊥) → line_at r.next.lines b ≡ line_at s.lines b)
 lines_elsewhere b s n (Store w v) r h other = grind (arith, nat_tests, other, put_read s.lines.at (block_of w) b)
@@ -43,7 +39,7 @@ pub globals_rise : EachReaction (λ s n i r. s.clock.global ≤ r.next.clock.glo
 globals_rise s n i r h = ⊎_elim (λ same. let g = ap (λ c. c.global) same in omega arith) (λ up. omega arith) (clocks_go_on.never_back s n i r h)
 
 pub sends_elsewhere : (b : ℕ) → EachReaction (λ s n i r. (Touches b i → ⊥) → filter (about b) (sent r.sent) ≡ [])
-sends_elsewhere b s n (Load w) r h other = grind (arith, nat_tests, other)
+sends_elsewhere b s n (Receive m) r h other = grind (arith, nat_tests, other)
 sends_elsewhere b s n _ r h other = grind (arith, nat_tests, other)
 
 -- what a message has a processor do is an interrupt, which is not on memory

@@ -22,7 +22,7 @@ use Rattle.coherence.proofs.Meeting.{Asks, Goes}
 use Rattle.coherence.specs.Histories.{Issued, issues}
 use Rattle.coherence.specs.Worlds.{World, processor_at, with_processor, with_first, with_second, no_processor}
 use Rattle.coherence.specs.declared.call.Call.{Call}
-use Rattle.coherence.specs.declared.call.Call.TheVariants.{Load, Store, Request, LdIo, StIo, Collect, GiveUp, Act, Deliver, Poll}
+use Rattle.coherence.specs.declared.call.Call.TheVariants.{Request, Collect, GiveUp, Act, Deliver, Poll}
 
 -- an interrupt's place is its receiver, and a request's block is its home's
 pub interrupt_place : (f : Figures) (m : Message ℕ) → Well f m → same_kind m.kind kind.Int ≡ true → m.place ≡ m.receiver
