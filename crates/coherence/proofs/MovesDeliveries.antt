@@ -140,19 +140,8 @@ module _ {A B : Type 0} (w : World A B) (shape : Shape w) (p : ℕ) (small : p <
     said f r h = subst (λ (n : ℕ). f n b ≡ Some r) from (subst (λ (n : ℕ). f m.sender n ≡ Some r) place h)
 
     by_kind : (k : Kind) (r : Reaction (Processor ℕ)) → m.kind ≡ k → about b m ≡ true → WellRefused m → receive_kind k state p m ≡ Some r → Moves b x (y r)
-    by_kind kind.Gets r k here ok h = never cc
-    by_kind kind.Getx r k here ok h = never cc
-    by_kind kind.Upg r k here ok h = never cc
-    by_kind kind.Wb r k here ok h = never cc
-    by_kind kind.Rblk r k here ok h = never cc
-    by_kind kind.Wblk r k here ok h = never cc
-    by_kind kind.Rio r k here ok h = never cc
-    by_kind kind.Wio r k here ok h = never cc
     by_kind kind.Int r k here ok h = absurd (both_ways (about b m) (rw k refl) here)
-    by_kind kind.Ack r k here ok h = never cc
-    by_kind kind.Words r k here ok h = never cc
     by_kind kind.Value r k here ok h = absurd (both_ways (about b m) (rw k refl) here)
-    by_kind kind.Taken r k here ok h = never cc
     by_kind kind.Inv r k here ok h = go (facts.invalidates state p r (home_node b) b (said (invalidated state p) r h))
       where
         go : facts.Invalidates state p r (home_node b) b → Moves b x (y r)
@@ -202,6 +191,7 @@ module _ {A B : Type 0} (w : World A B) (shape : Shape w) (p : ℕ) (small : p <
           messages = posted z [] here refl;
           trail = kept_added (on b) w.trail [] refl;
         }))
+    by_kind _ r k here ok h = never cc
 
   -- Whatever reaches a processor is a move of the block.
   pub delivery_moves : (r : Reaction (Processor ℕ)) → (comes_from_home m.kind ≡ true → m.sender ≡ home_node m.place) → WellRefused m
