@@ -1,12 +1,12 @@
 -- The world that a board and its two lists are. The devices show their states.
-use Rattle.std.specs.Prelude.{ℕ, Bool, ◌&&◌, if◌then◌else◌, List as Seq, [], ◌∷◌, length, map, Some, None, Option, ◌==◌, nat_le, nat_lt}
+use Rattle.std.specs.Prelude.{ℕ, Bool, ◌&&◌, if◌then◌else◌, List as Seq, [], ◌∷◌, length, map, ◌==◌, nat_le, nat_lt}
 use Rattle.bridge.specs.States.{view}
 use Rattle.coherence.specs.Makings.{Making, block_words}
 use Rattle.coherence.specs.Worlds.{World}
 use Rattle.device.specs.declared.meaning.Device.{Ghosts}
 use Rattle.home.specs.Homes.{new_home}
 use Rattle.home.specs.declared.machine.Home.{Home}
-use Rattle.list.specs.Contents.{contents, room, removed}
+use Rattle.list.specs.Contents.{contents, room}
 use Rattle.list.specs.declared.storage.List.{List}
 use Rattle.message.specs.declared.figures.Figures.{Figures}
 use Rattle.message.specs.declared.message.Message.{Message}
@@ -37,11 +37,6 @@ module _ {A B : Type 0} (a : Ghosts A) (b : Ghosts B) where
   abbrev pub board_figures : Board A B → Figures
   board_figures x = record { processors = x.tables.count; counts = length (device_words x 0) ∷ (length (device_words x 1) ∷ []) }
 
--- What waits once the delivered message, if any, is taken out.
-abbrev pub left : {T : Type 0} → Seq T → Option ℕ → Seq T
-left xs None = xs
-left xs (Some i) = removed xs i
-
 -- What a board is made of, with the rooms of the lists that it is made with.
 abbrev pub making : {S T : Type 0} → ℕ → ℕ → Seq ℕ → S → T → List (Message ℕ) → List Entry → Making S T
 making ps clock ws a b ms es = record {
@@ -53,6 +48,10 @@ making ps clock ws a b ms es = record {
   message_room = room ms;
   trail_room = room es;
 }
+
+abbrev pub board_making : {A B : Type 0} (a : Ghosts A) (b : Ghosts B) → ℕ → ℕ → Seq ℕ → A → B → List (Message ℕ) → List Entry
+    → Making a.State b.State
+board_making a b ps clock ws first second ms es = making ps clock ws (a.state first) (b.state second) ms es
 
 -- The homes of the 16 blocks at the making.
 abbrev pub homes_from : Seq ℕ → ℕ → Seq (Home ℕ)

@@ -1,7 +1,7 @@
 pub mod Answers
 pub mod Boards
 pub mod Calls
-pub mod Fitting
+pub mod Commits
+pub mod Lists
 pub mod Picking
 pub mod Runs
-pub mod Tickets

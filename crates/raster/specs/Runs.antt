@@ -1,5 +1,5 @@
 -- Calls made in turn: the world that they lead to, and their answers.
-use Rattle.std.specs.Prelude.{◌≡◌, List, [], ◌∷◌, ◌++◌}
+use Rattle.std.specs.Prelude.{◌≡◌, ℕ, List, [], ◌∷◌, ◌++◌}
 use Rattle.coherence.specs.Histories.{run, answered}
 use Rattle.coherence.specs.Makings.{Making}
 use Rattle.coherence.specs.Promise.{OrderKept}
@@ -7,6 +7,12 @@ use Rattle.coherence.specs.Steps.{Answer, step}
 use Rattle.coherence.specs.Worlds.{World}
 use Rattle.coherence.specs.declared.call.Call.{Call}
 use Rattle.device.specs.Meaning.{Meaning}
+
+-- ys over the beginning of xs, as far as both go.
+abbrev pub overlaid : {X : Type 0} → List X → List X → List X
+overlaid [] ys = []
+overlaid (x ∷ xs) [] = x ∷ xs
+overlaid (x ∷ xs) (y ∷ ys) = y ∷ overlaid xs ys
 
 module _ {A B : Type 0} (ma : Meaning A) (mb : Meaning B) where
   abbrev pub world_after : World A B → List Call → World A B
@@ -24,8 +30,12 @@ module _ {A B : Type 0} (ma : Meaning A) (mb : Meaning B) where
       (k : Making A B) (cs : List Call) → (run ma mb k cs).world ≡ w
       → (run ma mb k (cs ++ c ∷ []) ≡ answered ma mb c (run ma mb k cs) o.0 o.1) × OrderKept ma mb k (run ma mb k (cs ++ c ∷ []))
 
--- ys over the beginning of xs, as far as both go.
-abbrev pub overlaid : {X : Type 0} → List X → List X → List X
-overlaid [] ys = []
-overlaid (x ∷ xs) [] = x ∷ xs
-overlaid (x ∷ xs) (y ∷ ys) = y ∷ overlaid xs ys
+  -- From w the calls lead to v. As many answers are given as there are calls and places for them: those that were there before,
+  -- and those that are there now.
+  pub record Called (w : World A B) (cs : List Call) (before now : List Answer) (v : World A B) : Type 0 where
+    pub world : v ≡ world_after w cs
+    pub answers : now ≡ overlaid before (answers_of w cs)
+
+  -- It is the world of the run's history, which keeps the order promise.
+  abbrev pub RunKept : Making A B → List Call → World A B → Type 0
+  RunKept k cs v = ((run ma mb k cs).world ≡ v) × OrderKept ma mb k (run ma mb k cs)

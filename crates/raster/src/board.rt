@@ -1,17 +1,14 @@
 //! A board around two devices of any two kinds: its figures, the nodes that are no devices, and two bridges; and the checks
 //! that stand before every call.
 
-ghost use Rattle.std.specs.Prelude.{◌≡◌, ◌≤◌, true, length, Ok, nat_lt};
+ghost use Rattle.std.specs.Prelude.{◌≡◌, ◌≤◌, true, Ok, nat_lt};
 ghost use Rattle.coherence.specs.Steps.{check, argument};
 ghost use Rattle.coherence.specs.declared.fault.BoardFault.TheVariants.{NotFit};
 ghost use Rattle.coherence.specs.declared.fault.Fault.TheVariants as fault;
-ghost use Rattle.raster.specs.Boards.{device_words, board_figures};
 
 use bridge::state::Bridge;
 use coherence::fault::{BoardFault, Fault};
-use device::meaning::Device;
 use home::machine::Home;
-use message::figures::Figures;
 use processor::state::Processor;
 
 /// All of a board but its devices.
@@ -56,28 +53,5 @@ impl<A, B> Board<A, B> {
             return Err(Fault::Board(BoardFault::NotFit));
         }
         Ok(())
-    }
-}
-
-impl<A: Device, B: Device> Board<A, B> {
-    /// How many words a device has; every number but 0 stands for the second.
-    pub(crate) fn word_count(&self, device: u32) -> u32
-        ensures { result ≡ length (device_words A.Device B.Device self.now device) }
-    {
-        if device < 1 {
-            self.first.device.count()
-        } else {
-            self.second.device.count()
-        }
-    }
-
-    /// What decides whether a message is well formed on this board.
-    pub(crate) fn figures(&self) -> Figures
-        ensures { result ≡ board_figures A.Device B.Device self.now }
-    {
-        Figures {
-            processors: self.tables.count,
-            counts: [self.first.device.count(), self.second.device.count()],
-        }
     }
 }

@@ -1,22 +1,22 @@
 //! What a delivery does: the message is taken out and reaches its receiver, one node, which reacts.
 
-ghost use Rattle.std.specs.Prelude.{◌≡◌, ◌<◌, true, [], ◌∷◌, length, is_some, IfSome, IfOk, None, OnOk, nat_lt, slice_index_or};
+ghost use Rattle.std.specs.Prelude.{◌≡◌, ◌<◌, true, length, is_some, IfSome, IfOk, Some, None, OnOk, nat_lt, slice_index_or};
 ghost use Rattle.bridge.specs.Reactions as bridge_messages;
-ghost use Rattle.bridge.specs.States.{view};
-ghost use Rattle.coherence.specs.Steps.{step, settled, ruled, delivered, by_processor, by_home};
-ghost use Rattle.coherence.specs.Worlds.{no_processor, no_home};
+ghost use Rattle.coherence.specs.Steps.{delivered, by_processor, by_home};
+ghost use Rattle.coherence.specs.Worlds.{processor_at, home_at};
 ghost use Rattle.coherence.specs.declared.call.Call.TheVariants.{Deliver};
 ghost use Rattle.home.specs.Reactions.{received};
-ghost use Rattle.list.specs.Contents.{contents, room, removed};
+ghost use Rattle.list.specs.Contents.{contents};
 ghost use Rattle.message.specs.Checks.{checked, well_formed};
 ghost use Rattle.message.specs.Messages.{no_message};
 ghost use Rattle.message.specs.Nodes.{node_numbered};
 ghost use Rattle.message.specs.Pairs.{oldest_of_pair};
 ghost use Rattle.processor.specs.Receive.{receive};
 ghost use Rattle.std.specs.Option.{option_map};
-ghost use Rattle.raster.specs.Answers.{done};
-ghost use Rattle.raster.specs.Boards.{world};
-ghost use Rattle.raster.specs.Fitting.{bridge_committed, by_rule};
+ghost use Rattle.raster.specs.Answers.{done_answer};
+ghost use Rattle.raster.specs.Boards.{board_figures};
+ghost use Rattle.raster.specs.Calls.{Stepped, Did, Reached};
+ghost use Rattle.raster.specs.Commits.{BridgeCommitted, by_rule};
 ghost use Rattle.raster.specs.Picking.{picked, There};
 
 use crate::board::Board;
@@ -25,7 +25,6 @@ use bridge::state::Bridge;
 use coherence::fault::{BoardFault, Fault, NetworkFault};
 use device::meaning::Device;
 use list::List;
-use message::figures::Figures;
 use message::message::Message;
 use message::node::Node;
 use message::pair::oldest_of_pair;
@@ -55,7 +54,7 @@ fn receiver(message: Message<u32>) -> Option<Node>
 }
 
 // The message reaches one bridge.
-#[tactic(auto, unfolding(crate::specs::Fitting::planned))]
+#[tactic(auto, unfolding(crate::specs::Commits::planned))]
 fn reach_at<D: Device>(
     bridge: &mut Bridge<D>,
     messages: &mut List<Message>,
@@ -64,8 +63,9 @@ fn reach_at<D: Device>(
     place: usize,
     message: Message<u32>,
 ) -> Result<(), Fault>
-    ensures value { (done result, view D.Device.state bridge.new, contents messages.new, contents trail.new) ≡ bridge_committed number (view D.Device.state bridge.old) (by_rule place (bridge_messages.receive D.Device.meaning number (view D.Device.state bridge.old) message)) (contents messages.old) (removed (contents messages.old) place) (room messages.old) (contents trail.old) (room trail.old) }
-    ensures rooms { (room messages.new ≡ room messages.old) × (room trail.new ≡ room trail.old) }
+    ensures { BridgeCommitted D.Device number bridge.old messages.old trail.old (Some place)
+        (λ b. by_rule place (bridge_messages.receive D.Device.meaning number b message))
+        (done_answer result) bridge.new messages.new trail.new }
 {
     let plan = bridge.receive(number, message);
     let plan = plan.ok_or(NetworkFault::NoRule(place))?;
@@ -89,19 +89,10 @@ impl<A: Device, B: Device> Board<A, B> {
 }
 
 impl<A: Device, B: Device> Board<A, B> {
-    fn figures(&self) -> Figures
-        ensures { result ≡ record { processors = self.now.tables.count; counts = length (A.Device.meaning.words (A.Device.state self.now.first.device)) ∷ (length (B.Device.meaning.words (B.Device.state self.now.second.device)) ∷ []) } }
-    {
-        Figures {
-            processors: self.tables.count,
-            counts: [self.first.device.count(), self.second.device.count()],
-        }
-    }
-
     // The message with its clock at rest, if it is well formed on this board.
     fn formed(&self, message: Message) -> Option<Message<u32>>
-        ensures value { result ≡ checked (record { processors = self.now.tables.count; counts = length (A.Device.meaning.words (A.Device.state self.now.first.device)) ∷ (length (B.Device.meaning.words (B.Device.state self.now.second.device)) ∷ []) }) message }
-        ensures formed { is_some result ≡ well_formed (record { processors = self.now.tables.count; counts = length (A.Device.meaning.words (A.Device.state self.now.first.device)) ∷ (length (B.Device.meaning.words (B.Device.state self.now.second.device)) ∷ []) }) message }
+        ensures value { result ≡ checked (board_figures A.Device B.Device self.now) message }
+        ensures formed { is_some result ≡ well_formed (board_figures A.Device B.Device self.now) message }
         ensures same { IfSome result (λ m. m ≡ message) }
     {
         message.checked(self.figures())
@@ -117,7 +108,9 @@ impl<A: Device, B: Device> Board<A, B> {
         message: Message<u32>,
     ) -> Result<(), Fault>
         requires { processor < 4 }
-        ensures { (done result, world A.Device.state B.Device.state self.new messages.new trail.new) ≡ settled A.Device.meaning B.Device.meaning (Deliver place) (world A.Device.state B.Device.state self.old messages.old trail.old) (ruled A.Device.meaning B.Device.meaning (world A.Device.state B.Device.state self.old messages.old trail.old) place (option_map (by_processor (world A.Device.state B.Device.state self.old messages.old trail.old) processor) (receive (slice_index_or self.old.tables.processors processor no_processor) processor message))) }
+        ensures { Reached A.Device B.Device self.old messages.old trail.old
+            place (λ w. option_map (by_processor w processor) (receive (processor_at w processor) processor message))
+            (done_answer result) self.new messages.new trail.new }
     {
         let state = self.tables.processors[processor as usize];
         let reaction = state.receive(processor, message);
@@ -136,7 +129,9 @@ impl<A: Device, B: Device> Board<A, B> {
         message: Message<u32>,
     ) -> Result<(), Fault>
         requires { block < 16 }
-        ensures { (done result, world A.Device.state B.Device.state self.new messages.new trail.new) ≡ settled A.Device.meaning B.Device.meaning (Deliver place) (world A.Device.state B.Device.state self.old messages.old trail.old) (ruled A.Device.meaning B.Device.meaning (world A.Device.state B.Device.state self.old messages.old trail.old) place (option_map (by_home (world A.Device.state B.Device.state self.old messages.old trail.old) block) (received (slice_index_or self.old.tables.homes block no_home) block message))) }
+        ensures { Reached A.Device B.Device self.old messages.old trail.old
+            place (λ w. option_map (by_home w block) (received (home_at w block) block message))
+            (done_answer result) self.new messages.new trail.new }
     {
         let state = self.tables.homes[block as usize];
         let reaction = state.receive(block, message);
@@ -153,7 +148,9 @@ impl<A: Device, B: Device> Board<A, B> {
         place: usize,
         message: Message,
     ) -> Result<(), Fault>
-        ensures { (done result, world A.Device.state B.Device.state self.new messages.new trail.new) ≡ settled A.Device.meaning B.Device.meaning (Deliver place) (world A.Device.state B.Device.state self.old messages.old trail.old) (ruled A.Device.meaning B.Device.meaning (world A.Device.state B.Device.state self.old messages.old trail.old) place (delivered A.Device.meaning B.Device.meaning (world A.Device.state B.Device.state self.old messages.old trail.old) message)) }
+        ensures { Reached A.Device B.Device self.old messages.old trail.old
+            place (λ w. delivered A.Device.meaning B.Device.meaning w message)
+            (done_answer result) self.new messages.new trail.new }
     {
         let no_rule = NetworkFault::NoRule(place);
         let message = self.formed(message).ok_or(no_rule)?;

@@ -1,17 +1,13 @@
 //! What act does: the device's bridge decides about its wish, and does it where there is room.
 
-ghost use Rattle.std.specs.Prelude.{◌≡◌};
+ghost use Rattle.std.specs.Prelude.{None};
 ghost use Rattle.bridge.specs.Reactions.{act};
-ghost use Rattle.bridge.specs.States.{view};
-ghost use Rattle.coherence.specs.Steps.{step};
 ghost use Rattle.coherence.specs.declared.call.Call.TheVariants.{Act};
-ghost use Rattle.list.specs.Contents.{contents, room};
-ghost use Rattle.raster.specs.Answers.{done};
-ghost use Rattle.raster.specs.Boards.{world};
-ghost use Rattle.raster.specs.Fitting.{bridge_committed, by_wish};
+ghost use Rattle.raster.specs.Answers.{done_answer};
+ghost use Rattle.raster.specs.Calls.{Stepped, Did};
+ghost use Rattle.raster.specs.Commits.{BridgeCommitted, by_wish};
 
-use crate::board::Board;
-use crate::check::check_below;
+use crate::board::{Board, check_below};
 use crate::commit::commit_plan;
 use bridge::state::Bridge;
 use coherence::fault::Fault;
@@ -21,7 +17,7 @@ use message::message::Message;
 use trail::entry::Entry;
 
 // The wish of the device at one bridge.
-#[tactic(auto, unfolding(crate::specs::Fitting::planned))]
+#[tactic(auto, unfolding(crate::specs::Commits::planned))]
 fn act_at<D: Device>(
     bridge: &mut Bridge<D>,
     messages: &mut List<Message>,
@@ -29,8 +25,8 @@ fn act_at<D: Device>(
     number: u8,
     processors: u32,
 ) -> Result<(), Fault>
-    ensures value { (done result, view D.Device.state bridge.new, contents messages.new, contents trail.new) ≡ bridge_committed number (view D.Device.state bridge.old) (by_wish (act D.Device.meaning number processors (view D.Device.state bridge.old))) (contents messages.old) (contents messages.old) (room messages.old) (contents trail.old) (room trail.old) }
-    ensures rooms { (room messages.new ≡ room messages.old) × (room trail.new ≡ room trail.old) }
+    ensures { BridgeCommitted D.Device number bridge.old messages.old trail.old None
+        (λ b. by_wish (act D.Device.meaning number processors b)) (done_answer result) bridge.new messages.new trail.new }
 {
     let plan = bridge.act(number, processors)?;
     commit_plan(bridge, messages, trail, None, number, plan)

@@ -9,6 +9,7 @@ mod calls;
 mod commit;
 mod deliveries;
 mod devices;
+mod figures;
 mod making;
 mod post;
 mod processors;
