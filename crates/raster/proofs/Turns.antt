@@ -1,5 +1,6 @@
 -- One call more: the world and the answers after it.
 use Rattle.std.proofs.Common.{◌≡◌, ℕ, suc, ◌+◌, ◌<◌, List, [], ◌∷◌, ◌++◌, length, get_or, take, set, sym, refl, ap, ◌∙◌, arith}
+use Rattle.coherence.proofs.OrderPromise.{order_promise}
 use Rattle.coherence.proofs.Running.{answered_world}
 use Rattle.coherence.specs.Histories.{History, called_on, after_calls, began, run}
 use Rattle.coherence.specs.Makings.{Making, make}
@@ -7,9 +8,9 @@ use Rattle.coherence.specs.Steps.{Answer, step}
 use Rattle.coherence.specs.Worlds.{World}
 use Rattle.coherence.specs.declared.call.Call.{Call}
 use Rattle.coherence.specs.declared.call.Call.TheVariants.{Load}
-use Rattle.device.specs.Meaning.{Meaning}
+use Rattle.device.specs.Meaning.{Meaning, Laws}
 use Rattle.std.proofs.lemmas.List.{length-take-le, take_more}
-use Rattle.raster.specs.Runs.{world_after, answers_of, overlaid, Called}
+use Rattle.raster.specs.Runs.{world_after, answers_of, overlaid, Called, Ran}
 
 pub overlaid_none : {X : Type 0} (xs : List X) → overlaid xs [] ≡ xs
 overlaid_none [] = refl
@@ -75,3 +76,12 @@ module _ {A B : Type 0} (ma : Meaning A) (mb : Meaning B) where
   -- the world of a run's history
   pub run_world : (k : Making A B) (cs : List Call) → (run ma mb k cs).world ≡ world_after ma mb (make ma mb k) cs
   run_world k cs = after_world (began ma mb k) cs
+
+  -- A making and then calls, with the run's promise.
+  pub ran : Laws ma → Laws mb → (k : Making A B) (cs : List Call) (before now : List Answer) (w v : World A B) → w ≡ make ma mb k
+      → Called ma mb w cs before now v → Ran ma mb k cs before now v
+  ran la lb k cs before now w v made called = record {
+    calls = rw (sym made) called;
+    history = run_world k cs;
+    promise = order_promise ma mb la lb k cs;
+  }

@@ -1,7 +1,7 @@
 -- Calls made in turn: the world that they lead to, and their answers.
 use Rattle.std.specs.Prelude.{◌≡◌, ℕ, List, [], ◌∷◌, ◌++◌}
 use Rattle.coherence.specs.Histories.{run, answered}
-use Rattle.coherence.specs.Makings.{Making}
+use Rattle.coherence.specs.Makings.{Making, make}
 use Rattle.coherence.specs.Promise.{OrderKept}
 use Rattle.coherence.specs.Steps.{Answer, step}
 use Rattle.coherence.specs.Worlds.{World}
@@ -36,6 +36,8 @@ module _ {A B : Type 0} (ma : Meaning A) (mb : Meaning B) where
     pub world : v ≡ world_after w cs
     pub answers : now ≡ overlaid before (answers_of w cs)
 
-  -- It is the world of the run's history, which keeps the order promise.
-  abbrev pub RunKept : Making A B → List Call → World A B → Type 0
-  RunKept k cs v = ((run ma mb k cs).world ≡ v) × OrderKept ma mb k (run ma mb k cs)
+  -- Made of k, and then called: the run's history has the world that the calls lead to, and keeps the order promise.
+  pub record Ran (k : Making A B) (cs : List Call) (before now : List Answer) (v : World A B) : Type 0 where
+    pub calls : Called (make ma mb k) cs before now v
+    pub history : (run ma mb k cs).world ≡ world_after (make ma mb k) cs
+    pub promise : OrderKept ma mb k (run ma mb k cs)

@@ -1,9 +1,8 @@
 //! Whole runs: one making, and then calls in turn.
 
 ghost use Rattle.std.specs.Prelude.{◌≡◌, slice_set};
-ghost use Rattle.coherence.specs.Makings.{make};
 ghost use Rattle.raster.specs.Boards.{world, board_making};
-ghost use Rattle.raster.specs.Runs.{world_after, Called, RunKept};
+ghost use Rattle.raster.specs.Runs.{Called, Ran};
 
 use crate::board::Board;
 use coherence::call::Call;
@@ -58,12 +57,10 @@ pub fn run<A: Device, B: Device>(
     calls: &[Call],
     answers: &mut [Result<Option<u32>, Fault>],
 ) -> Board<A, B>
-    ensures calls { let k = board_making A.Device B.Device processors clock words.now first second messages.old trail.old in
-        Called A.Device.meaning B.Device.meaning (make A.Device.meaning B.Device.meaning k) calls.now
-        answers.old answers.new (world A.Device.state B.Device.state result messages.new trail.new) }
-    ensures promise { let k = board_making A.Device B.Device processors clock words.now first second messages.old trail.old in
-        RunKept A.Device.meaning B.Device.meaning k calls.now
-        (world_after A.Device.meaning B.Device.meaning (make A.Device.meaning B.Device.meaning k) calls.now) }
+    ensures { let k = board_making A.Device B.Device
+            processors clock words.now first second messages.old trail.old in
+        Ran A.Device.meaning B.Device.meaning k calls.now answers.old answers.new
+            (world A.Device.state B.Device.state result messages.new trail.new) }
 {
     let mut board = Board::make(processors, clock, words, first, second, messages, trail);
     board.call_all(messages, trail, calls, answers);
