@@ -9,8 +9,14 @@ use Rattle.coherence.specs.declared.fault.BoardFault.TheVariants.{Refused}
 use Rattle.coherence.specs.declared.fault.Fault.{Fault}
 use Rattle.coherence.specs.declared.fault.Fault.TheVariants.{Board}
 use Rattle.device.specs.Meaning.{Meaning}
+use Rattle.device.specs.declared.meaning.Device.{Ghosts}
+use Rattle.list.specs.declared.storage.List.{List as Records}
+use Rattle.message.specs.declared.message.Message.{Message}
 use Rattle.processor.specs.declared.refusal.Refusal.TheVariants.{SlotTaken, NotCollectable}
+use Rattle.raster.specs.Boards.{world}
 use Rattle.raster.specs.Runs.{world_after}
+use Rattle.raster.specs.declared.ticket.Ticketed.{Ticketed}
+use Rattle.trail.specs.declared.entry.Entry.{Entry}
 use Rattle.lamp.specs.Banks.{bank_meaning}
 
 abbrev pub shift_board : Making (List ℕ) (List ℕ)
@@ -38,6 +44,10 @@ reached n = world_after bank_meaning bank_meaning (make bank_meaning bank_meanin
 -- Whether a call is accepted.
 abbrev pub accepts : {A B : Type 0} → Meaning A → Meaning B → Call → World A B → Bool
 accepts ma mb c w = is_ok (step ma mb c w).0
+
+-- The same of a board and its lists.
+abbrev pub accepted_by : {A B : Type 0} (a : Ghosts A) (b : Ghosts B) → Ticketed A B → Records (Message ℕ) → Records Entry → Call → Bool
+accepted_by a b x ms es c = accepts a.meaning b.meaning c (world a.state b.state x.board ms es)
 
 -- Why a processor cannot ask a device for a second word, and why it cannot collect a word that has not come.
 abbrev pub slot_taken : ℕ → Fault
