@@ -136,10 +136,13 @@ module _ (b : ℕ) (x y : Block) (t : Tokens x) (bounds : Bounds x) where
         by : Enters b x y → Fresh x.trail e
         by (nothing same) = not_still same
         by (load p w ws f r) = subst (Fresh x.trail) (same_entry f r.trail) (loads_fresh b x y t bounds p w ws f r)
-        by (store p w v ws f r) = subst (Fresh x.trail) (same_entry f r.trail) (stores_fresh b x y t bounds p w v ws f r)
+        by (store p w v ws f r) =
+            subst (Fresh x.trail) (same_entry f r.trail) (stores_fresh b x y t bounds p w v ws f r)
         by (finish r) = go (finished x.home b).entry refl
           where
             go : (o : Option Entry) → (finished x.home b).entry ≡ o → Fresh x.trail e
-            go None is = not_still (r.trail ∙ ap (λ (f : Option Entry). x.trail ++ option_to_list f) is ∙ append-nil x.trail)
+            go None is =
+                not_still (r.trail ∙ ap (λ (f : Option Entry). x.trail ++ option_to_list f) is ∙ append-nil x.trail)
             go (Some f) is =
-                subst (Fresh x.trail) (same_entry f (r.trail ∙ ap (λ (g : Option Entry). x.trail ++ option_to_list g) is)) (finishes_fresh b x y t bounds r f is)
+                let entered = r.trail ∙ ap (λ (g : Option Entry). x.trail ++ option_to_list g) is in
+                subst (Fresh x.trail) (same_entry f entered) (finishes_fresh b x y t bounds r f is)

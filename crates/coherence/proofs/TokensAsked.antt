@@ -51,8 +51,8 @@ module _ (b : ℕ) (x y : Block) (t : Tokens x) (p : ℕ) (ws : Words) (m a : Me
       asking = here c;
     }
 
-    gave_way : is_reply d ≡ false → AskedFor (y.out p) x.home y.messages p → Gathered x.home y.messages p → Held (y.line p) (y.out p) x.home y.messages p
-        → Tokens y
+    gave_way : is_reply d ≡ false → AskedFor (y.out p) x.home y.messages p → Gathered x.home y.messages p
+        → Held (y.line p) (y.out p) x.home y.messages p → Tokens y
     gave_way silent asked gathered copies =
         node_moves x y p t
         (record {

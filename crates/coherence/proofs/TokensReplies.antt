@@ -65,7 +65,8 @@ module _ (b : ℕ) (x y : Block) (t : Tokens x) (p : ℕ) (m : Message ℕ) wher
       reply = here c;
     }
 
-    taken : AskedFor (y.out p) x.home y.messages p → Gathered x.home y.messages p → Held (y.line p) (y.out p) x.home y.messages p → Tokens y
+    taken : AskedFor (y.out p) x.home y.messages p → Gathered x.home y.messages p
+        → Held (y.line p) (y.out p) x.home y.messages p → Tokens y
     taken asked gathered copies =
         node_moves x y p t
         (record {
@@ -75,7 +76,8 @@ module _ (b : ℕ) (x y : Block) (t : Tokens x) (p : ℕ) (m : Message ℕ) wher
           counts = moved_there x.messages y.messages m c p g.class g.end back 20 refl refl g.messages;
         })
         asked gathered copies
-        (posted_all (TimedReply x.home) x.messages (m ∷ []) (back ∷ []) y.messages g.messages t.clocks ((λ is. absurd (false≢true is)), tt))
+        (posted_all (TimedReply x.home) x.messages (m ∷ []) (back ∷ []) y.messages g.messages t.clocks
+        ((λ is. absurd (false≢true is)), tt))
 
   pub took_shared : p < 4 → Takes b x y p kind.Gets (x.line p) (Shared m.words) 13 m → Tokens y
   took_shared side g =

@@ -77,8 +77,12 @@ module _ (b : ℕ) (start : Address → ℕ) (x y : Block) (t : Tokens x) (v : V
     where
       go : Enters b x y → Reads (current start x.trail) e
       go (nothing same) = absurd (grown x.trail e (sym same ∙ added))
-      go (load p w ws f g) = subst (Reads (current start x.trail)) (last_entry x.trail f e (sym g.trail ∙ added)) (loads_reads b start x y v p w ws f g)
-      go (store p w n ws f g) = subst (Reads (current start x.trail)) (last_entry x.trail f e (sym g.trail ∙ added)) (no_read (current start x.trail) f (ap is_read g.entry.operation))
+      go (load p w ws f g) =
+          subst (Reads (current start x.trail)) (last_entry x.trail f e (sym g.trail ∙ added))
+          (loads_reads b start x y v p w ws f g)
+      go (store p w n ws f g) =
+          subst (Reads (current start x.trail)) (last_entry x.trail f e (sym g.trail ∙ added))
+          (no_read (current start x.trail) f (ap is_read g.entry.operation))
       go (finish g) = finishes_reads b start x y t v g e added
 
 module _ {A B : Type 0} (ma : Meaning A) (mb : Meaning B) (k : Making A B) where

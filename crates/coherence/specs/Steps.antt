@@ -113,7 +113,8 @@ module _ {A B : Type 0} where
   -- What forbids a commit: no room for the messages, none for the entry, a number past its end.
   abbrev pub fits : World A B → List (Message ℕ) → Effect A B → Result (Unit {0}) Fault
   fits w waiting e =
-      roomy (filling waiting w.message_room) (sent_count e.sent) (filling w.trail w.trail_room) (length (option_to_list e.entry))
+      roomy (filling waiting w.message_room) (sent_count e.sent)
+      (filling w.trail w.trail_room) (length (option_to_list e.entry))
       (check e.within (Board (NumberEnds e.node)) (Ok tt))
 
   -- All or nothing.
@@ -133,7 +134,8 @@ module _ {A B : Type 0} (ma : Meaning A) (mb : Meaning B) where
   -- What a message does at the node that it goes to.
   abbrev pub reacted : World A B → Message ℕ → Option Node → Option (Effect A B)
   reacted w m None = None
-  reacted w m (Some (node.Processor p)) = option_map (by_processor w p) (processor_messages.receive (processor_at w p) p m)
+  reacted w m (Some (node.Processor p)) =
+      option_map (by_processor w p) (processor_messages.receive (processor_at w p) p m)
   reacted w m (Some (node.Device d)) =
       if nat_lt d 1
       then option_map (by_first w) (bridge.receive ma 0 w.first m)

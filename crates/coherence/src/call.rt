@@ -1,9 +1,10 @@
 //! The calls of the board, after it is made.
 
-/// A call of the board by its numbers. Any may be given, and the first outside its range is refused as `BoardFault::Argument`.
+/// A call of the board by its numbers. Any may be given, and the first outside its range is refused as
+/// `BoardFault::Argument`.
 ///
-/// A processor is below the board's number of them, a word of memory below 64, a block below 16, a device 0 or 1, a device's
-/// word below its number of words, and a place below the number of waiting messages.
+/// A processor is below the board's number of them, a word of memory below 64, a block below 16, a device 0 or 1,
+/// a device's word below its number of words, and a place below the number of waiting messages.
 #[derive(Clone, Copy, Debug, PartialEq, Eq)]
 pub enum Call {
     /// Does an LD on a line that is S or X, and tells the word.
