@@ -177,15 +177,19 @@ module _ {A B : Type 0} (ma : Meaning A) (mb : Meaning B) where
       check (nat_lt p w.count) (argument 1) (check (nat_lt b 16) (argument 2)
       (requested w p b (request_numbered k)))
   effect (LdIo p d n) w =
-      check (nat_lt p w.count) (argument 1) (check (nat_lt d 2) (argument 2) (check (nat_lt n (length (words_of w d))) (argument 3)
+      check (nat_lt p w.count) (argument 1) (check (nat_lt d 2) (argument 2)
+      (check (nat_lt n (length (words_of w d))) (argument 3)
       (called w p (processor.ldio (processor_at w p) p d n))))
   effect (StIo p d n v) w =
-      check (nat_lt p w.count) (argument 1) (check (nat_lt d 2) (argument 2) (check (nat_lt n (length (words_of w d))) (argument 3)
+      check (nat_lt p w.count) (argument 1) (check (nat_lt d 2) (argument 2)
+      (check (nat_lt n (length (words_of w d))) (argument 3)
       (called w p (processor.stio (processor_at w p) p d n v))))
   effect (Collect p d) w =
-      check (nat_lt p w.count) (argument 1) (check (nat_lt d 2) (argument 2) (called w p (processor.collect (processor_at w p) d)))
+      check (nat_lt p w.count) (argument 1) (check (nat_lt d 2) (argument 2)
+      (called w p (processor.collect (processor_at w p) d)))
   effect (GiveUp p d) w =
-      check (nat_lt p w.count) (argument 1) (check (nat_lt d 2) (argument 2) (called w p (processor.give_up (processor_at w p) d)))
+      check (nat_lt p w.count) (argument 1) (check (nat_lt d 2) (argument 2)
+      (called w p (processor.give_up (processor_at w p) d)))
   effect (Act d) w = check (nat_lt d 2) (argument 1) (acted w d)
   effect (Deliver i) w =
       check (nat_lt i (length w.messages)) (argument 1)
