@@ -1,16 +1,16 @@
 -- Tokens after a processor gives way to INV or DOWN.
-use Rattle.std.proofs.Common.{◌≡◌, ℕ, ◌+◌, ◌≤◌, false, eqb, [], ◌∷◌, refl, ap, ◌∙◌, arith}
+use Rattle.std.proofs.Common.{◌≡◌, ℕ, false, [], ◌∷◌, refl, ap, ◌∙◌, arith}
 use Rattle.message.specs.declared.message.Message.{Message}
 use Rattle.ordering.specs.Words.{no_words}
 use Rattle.ordering.specs.declared.operation.Words.{Words}
 use Rattle.processor.specs.declared.line.Line.{Line}
 use Rattle.processor.specs.declared.line.Line.TheVariants.{Invalid, Shared, Exclusive}
 use Rattle.std.proofs.lemmas.Bool.{both_ways}
-use Rattle.coherence.proofs.Blocks.{Block, pending, posted_all, token}
-use Rattle.coherence.proofs.Counting.{indicator, indicator_most}
+use Rattle.coherence.proofs.Blocks.{Block, posted_all, token}
+use Rattle.coherence.proofs.Counting.{indicator_most}
 use Rattle.coherence.proofs.Moves.{GivesWay}
-use Rattle.coherence.proofs.Shifts.{TimedReply, apart, moved_here, moved_there, node_moves, put_here, put_there}
-use Rattle.coherence.proofs.Tokens.{AskedFor, Gathered, Held, Tokens, answering, gathering, held, is_reply, owned, shared}
+use Rattle.coherence.proofs.Shifts.{Swaps, TimedReply, moved_here, moved_there, node_moves, put_there, swaps}
+use Rattle.coherence.proofs.Tokens.{AskedFor, Gathered, Held, Tokens, is_reply}
 
 module _ (b : ℕ) (x y : Block) (t : Tokens x) (p : ℕ) (ws : Words) (m a : Message ℕ) where
   -- What is known of the node before and after, as numbers.
@@ -18,37 +18,16 @@ module _ (b : ℕ) (x y : Block) (t : Tokens x) (p : ℕ) (ws : Words) (m a : Me
     asked : AskedFor (y.out p) x.home x.messages p
     gathered : Gathered x.home x.messages p
     copies : Held (x.line p) (y.out p) x.home x.messages p
-    apart : answering x.home p + gathering x.home ≤ 1
-    held_then : held (x.line p) ≡ held old
-    shared_then : shared (x.line p) ≡ shared old
-    owned_then : owned (x.line p) ≡ owned old
-    held_now : held (y.line p) ≡ held new
-    shared_now : shared (y.line p) ≡ shared new
-    owned_now : owned (y.line p) ≡ owned new
-    count : (n : ℕ) → pending y.messages n p + indicator (eqb c n) ≡ pending x.messages n p + indicator (eqb d n)
-    asking : pending y.messages c p + indicator (eqb c c) ≡ pending x.messages c p + indicator (eqb d c)
+    swaps : Swaps x y p old new c d
 
   module _ {old new : Line} {c d : ℕ} {back : Words} (g : GivesWay b x y p old new c d back m a) where
-    line_now : y.line p ≡ new
-    line_now = put_here p new (x.line p) (y.line p) (g.lines p)
-
-    here : (n : ℕ) → pending y.messages n p + indicator (eqb c n) ≡ pending x.messages n p + indicator (eqb d n)
-    here = moved_here x.messages y.messages m c p g.class g.end a d g.class_back g.end_back g.messages
-
     facts : Facts old new c d
     facts = record {
       asked = rw (g.outs p) (t.asked p);
       gathered = t.gathered p;
       copies = rw (g.outs p) (t.copies p);
-      apart = apart x.home p;
-      held_then = ap held g.was;
-      shared_then = ap shared g.was;
-      owned_then = ap owned g.was;
-      held_now = ap held line_now;
-      shared_now = ap shared line_now;
-      owned_now = ap owned line_now;
-      count = here;
-      asking = here c;
+      swaps = swaps x y p old new c d g.was (g.lines p)
+          (moved_here x.messages y.messages m c p g.class g.end a d g.class_back g.end_back g.messages);
     }
 
     gave_way : is_reply d ≡ false → AskedFor (y.out p) x.home y.messages p → Gathered x.home y.messages p
@@ -68,17 +47,17 @@ module _ (b : ℕ) (x y : Block) (t : Tokens x) (p : ℕ) (ws : Words) (m a : Me
   pub invalidated_shared : GivesWay b x y p (Shared ws) Invalid 10 12 no_words m a → Tokens y
   invalidated_shared g =
       let f = facts g in
-      gave_way g refl (omega (arith, f.count)) (omega (arith, f.count, indicator_most))
-      (omega (arith, f.count, indicator_most))
+      gave_way g refl (omega (arith, f.swaps.count)) (omega (arith, f.swaps.count, indicator_most))
+      (omega (arith, f.swaps.count, indicator_most))
 
   pub invalidated_owned : GivesWay b x y p (Exclusive ws) Invalid 10 41 ws m a → Tokens y
   invalidated_owned g =
       let f = facts g in
-      gave_way g refl (omega (arith, f.count)) (omega (arith, f.count, indicator_most))
-      (omega (arith, f.count, indicator_most))
+      gave_way g refl (omega (arith, f.swaps.count)) (omega (arith, f.swaps.count, indicator_most))
+      (omega (arith, f.swaps.count, indicator_most))
 
   pub downgraded : GivesWay b x y p (Exclusive ws) (Shared ws) 11 41 ws m a → Tokens y
   downgraded g =
       let f = facts g in
-      gave_way g refl (omega (arith, f.count)) (omega (arith, f.count, indicator_most))
-      (omega (arith, f.count, indicator_most))
+      gave_way g refl (omega (arith, f.swaps.count)) (omega (arith, f.swaps.count, indicator_most))
+      (omega (arith, f.swaps.count, indicator_most))

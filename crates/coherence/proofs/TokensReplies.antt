@@ -10,12 +10,12 @@ use Rattle.ordering.specs.declared.operation.Words.{Words}
 use Rattle.processor.specs.declared.line.Line.{Line}
 use Rattle.processor.specs.declared.line.Line.TheVariants.{Shared, Exclusive}
 use Rattle.std.proofs.lemmas.Bool.{false≢true}
-use Rattle.coherence.proofs.Blocks.{Block, pending, posted_all}
+use Rattle.coherence.proofs.Blocks.{Block, posted_all}
 use Rattle.coherence.proofs.Counting.{indicator, indicator_most}
 use Rattle.coherence.proofs.Moves.{Takes}
-use Rattle.coherence.proofs.Shifts.{TimedReply, apart, moved_here, moved_there, node_moves, put_here, put_there}
+use Rattle.coherence.proofs.Shifts.{Swaps, TimedReply, moved_here, moved_there, node_moves, put_here, put_there, swaps}
 use Rattle.coherence.proofs.Sole.{copies_add}
-use Rattle.coherence.proofs.Tokens.{AskedFor, Gathered, Held, Tokens, answering, gathering, held, out_is, owned, shared}
+use Rattle.coherence.proofs.Tokens.{AskedFor, Gathered, Held, Tokens, held, out_is, owned, shared}
 
 module _ (b : ℕ) (x y : Block) (t : Tokens x) (p : ℕ) (m : Message ℕ) where
   abbrev back : Message ℕ
@@ -26,43 +26,22 @@ module _ (b : ℕ) (x y : Block) (t : Tokens x) (p : ℕ) (m : Message ℕ) wher
     asked : AskedFor (x.out p) x.home x.messages p
     gathered : Gathered x.home x.messages p
     copies : Held (x.line p) (x.out p) x.home x.messages p
-    apart : answering x.home p + gathering x.home ≤ 1
     copy : held (x.line p) ≡ shared (x.line p) + owned (x.line p)
     out_then : (n : ℕ) → out_is (x.out p) n ≡ indicator (eqb (kind_number k) n)
     out_now : (n : ℕ) → out_is (y.out p) n ≡ 0
-    held_then : held (x.line p) ≡ held old
-    shared_then : shared (x.line p) ≡ shared old
-    owned_then : owned (x.line p) ≡ owned old
-    held_now : held (y.line p) ≡ held new
-    shared_now : shared (y.line p) ≡ shared new
-    owned_now : owned (y.line p) ≡ owned new
-    count : (n : ℕ) → pending y.messages n p + indicator (eqb c n) ≡ pending x.messages n p + indicator (eqb 20 n)
-    reply : pending y.messages c p + indicator (eqb c c) ≡ pending x.messages c p + indicator (eqb 20 c)
+    swaps : Swaps x y p old new c 20
 
   module _ {k : Kind} {old new : Line} {c : ℕ} (g : Takes b x y p k old new c m) where
-    line_now : y.line p ≡ new
-    line_now = put_here p new (x.line p) (y.line p) (g.lines p)
-
-    here : (n : ℕ) → pending y.messages n p + indicator (eqb c n) ≡ pending x.messages n p + indicator (eqb 20 n)
-    here = moved_here x.messages y.messages m c p g.class g.end back 20 refl refl g.messages
-
     facts : Facts k old new c
     facts = record {
       asked = t.asked p;
       gathered = t.gathered p;
       copies = t.copies p;
-      apart = apart x.home p;
       copy = copies_add (x.line p);
       out_then = λ n. ap (λ o. out_is o n) g.asked;
       out_now = λ n. ap (λ o. out_is o n) (put_here p None (x.out p) (y.out p) (g.outs p));
-      held_then = ap held g.was;
-      shared_then = ap shared g.was;
-      owned_then = ap owned g.was;
-      held_now = ap held line_now;
-      shared_now = ap shared line_now;
-      owned_now = ap owned line_now;
-      count = here;
-      reply = here c;
+      swaps = swaps x y p old new c 20 g.was (g.lines p)
+          (moved_here x.messages y.messages m c p g.class g.end back 20 refl refl g.messages);
     }
 
     taken : AskedFor (y.out p) x.home y.messages p → Gathered x.home y.messages p
@@ -82,35 +61,35 @@ module _ (b : ℕ) (x y : Block) (t : Tokens x) (p : ℕ) (m : Message ℕ) wher
   pub took_shared : p < 4 → Takes b x y p kind.Gets (x.line p) (Shared m.words) 13 m → Tokens y
   took_shared side g =
       let f = facts g in
-      taken g (omega (arith, f.count, f.out_then, f.out_now)) (omega (arith, f.count, indicator_most))
-      (omega (arith, f.count, f.out_then, f.out_now, indicator_most))
+      taken g (omega (arith, f.swaps.count, f.out_then, f.out_now)) (omega (arith, f.swaps.count, indicator_most))
+      (omega (arith, f.swaps.count, f.out_then, f.out_now, indicator_most))
 
   pub took_owned : p < 4 → Takes b x y p kind.Getx (x.line p) (Exclusive m.words) 14 m → Tokens y
   took_owned side g =
       let f = facts g in
-      taken g (omega (arith, f.count, f.out_then, f.out_now)) (omega (arith, f.count, indicator_most))
-      (omega (arith, f.count, f.out_then, f.out_now, indicator_most))
+      taken g (omega (arith, f.swaps.count, f.out_then, f.out_now)) (omega (arith, f.swaps.count, indicator_most))
+      (omega (arith, f.swaps.count, f.out_then, f.out_now, indicator_most))
 
   pub given_back : p < 4 → Takes b x y p kind.Wb (x.line p) (x.line p) 16 m → Tokens y
   given_back side g =
       let f = facts g in
-      taken g (omega (arith, f.count, f.out_then, f.out_now)) (omega (arith, f.count, indicator_most))
-      (omega (arith, f.count, f.out_then, f.out_now, indicator_most))
+      taken g (omega (arith, f.swaps.count, f.out_then, f.out_now)) (omega (arith, f.swaps.count, indicator_most))
+      (omega (arith, f.swaps.count, f.out_then, f.out_now, indicator_most))
 
   pub landed : 4 ≤ p → Takes b x y p kind.Rblk (x.line p) (x.line p) 17 m → Tokens y
   landed side g =
       let f = facts g in
-      taken g (omega (arith, f.count, f.out_then, f.out_now)) (omega (arith, f.count, indicator_most))
-      (omega (arith, f.count, f.out_then, f.out_now, indicator_most))
+      taken g (omega (arith, f.swaps.count, f.out_then, f.out_now)) (omega (arith, f.swaps.count, indicator_most))
+      (omega (arith, f.swaps.count, f.out_then, f.out_now, indicator_most))
 
   pub took_done : 4 ≤ p → Takes b x y p kind.Wblk (x.line p) (x.line p) 42 m → Tokens y
   took_done side g =
       let f = facts g in
-      taken g (omega (arith, f.count, f.out_then, f.out_now)) (omega (arith, f.count, indicator_most))
-      (omega (arith, f.count, f.out_then, f.out_now, indicator_most))
+      taken g (omega (arith, f.swaps.count, f.out_then, f.out_now)) (omega (arith, f.swaps.count, indicator_most))
+      (omega (arith, f.swaps.count, f.out_then, f.out_now, indicator_most))
 
   pub bettered : (ws : Words) → p < 4 → Takes b x y p kind.Upg (Shared ws) (Exclusive ws) 15 m → Tokens y
   bettered ws side g =
       let f = facts g in
-      taken g (omega (arith, f.count, f.out_then, f.out_now)) (omega (arith, f.count, indicator_most))
-      (omega (arith, f.count, f.out_then, f.out_now, indicator_most))
+      taken g (omega (arith, f.swaps.count, f.out_then, f.out_now)) (omega (arith, f.swaps.count, indicator_most))
+      (omega (arith, f.swaps.count, f.out_then, f.out_now, indicator_most))
