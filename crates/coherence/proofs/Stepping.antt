@@ -27,7 +27,8 @@ module _ {A B : Type 0} where
 module _ {A B : Type 0} (ma : Meaning A) (mb : Meaning B) where
   -- what holds of every refusal, and after every effect of a board within its figures, holds after the step
   pub settles : (P : Answer × World A B → Type 0) (c : Call) (w : World A B) → ((f : Fault) → P (Err f, w))
-      → ((e : Effect A B) → w.fit ≡ true → effect ma mb c w ≡ Ok e → e.within ≡ true → P (Ok e.answer, after w (waiting ma mb c w) e))
+      → ((e : Effect A B) → w.fit ≡ true → effect ma mb c w ≡ Ok e → e.within ≡ true
+      → P (Ok e.answer, after w (waiting ma mb c w) e))
       → P (step ma mb c w)
   settles P c w old new = go (check w.fit (Board NotFit) (effect ma mb c w)) refl
     where
@@ -39,6 +40,7 @@ module _ {A B : Type 0} (ma : Meaning A) (mb : Meaning B) where
 
   -- the same of worlds, where what holds of the one before holds after a refusal
   pub steps : (P : World A B → Type 0) (c : Call) (w : World A B) → P w
-      → ((e : Effect A B) → w.fit ≡ true → effect ma mb c w ≡ Ok e → e.within ≡ true → P (after w (waiting ma mb c w) e))
+      → ((e : Effect A B) → w.fit ≡ true → effect ma mb c w ≡ Ok e → e.within ≡ true
+      → P (after w (waiting ma mb c w) e))
       → P (step ma mb c w).1
   steps P c w old = settles (λ o. P o.1) c w (λ _. old)

@@ -26,11 +26,13 @@ Stands xs x = (i : ℕ) × (slice_get xs i ≡ Some x)
 
 -- a. Two entries of the trail have equal stamps, or the same party and sequence number, only if they are the same.
 abbrev pub OwnStamps : List Entry → Type 0
-OwnStamps trail = (i j : ℕ) (e f : Entry) → slice_get trail i ≡ Some e → slice_get trail j ≡ Some f → e.stamp ≡ f.stamp → i ≡ j
+OwnStamps trail =
+    (i j : ℕ) (e f : Entry) → slice_get trail i ≡ Some e → slice_get trail j ≡ Some f → e.stamp ≡ f.stamp → i ≡ j
 
 pub record Unique (trail : List Entry) : Type 0 where
   pub stamps : OwnStamps trail
-  pub numbers : (i j : ℕ) (e f : Entry) → slice_get trail i ≡ Some e → slice_get trail j ≡ Some f → e.party ≡ f.party → e.sequence ≡ f.sequence → i ≡ j
+  pub numbers : (i j : ℕ) (e f : Entry) → slice_get trail i ≡ Some e → slice_get trail j ≡ Some f
+      → e.party ≡ f.party → e.sequence ≡ f.sequence → i ≡ j
 
 -- An operation is done once the trail has its party and sequence number.
 pub record Done (trail : List Entry) (party sequence : ℕ) : Type 0 where

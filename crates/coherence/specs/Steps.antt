@@ -16,6 +16,7 @@ use Rattle.message.specs.Reactions.{sent, sent_count}
 use Rattle.message.specs.declared.figures.Figures.{Figures}
 use Rattle.message.specs.declared.kind.Kind.{Kind}
 use Rattle.message.specs.declared.message.Message.{Message}
+use Rattle.message.specs.declared.node.Node.{Node}
 use Rattle.message.specs.declared.node.Node.TheVariants as node
 use Rattle.message.specs.declared.reaction.Outbox.{Outbox}
 use Rattle.message.specs.declared.reaction.Reaction.{Reaction}
@@ -112,7 +113,8 @@ module _ {A B : Type 0} where
   -- What forbids a commit: no room for the messages, none for the entry, a number past its end.
   abbrev pub fits : World A B → List (Message ℕ) → Effect A B → Result (Unit {0}) Fault
   fits w waiting e =
-      roomy (filling waiting w.message_room) (sent_count e.sent) (filling w.trail w.trail_room) (length (option_to_list e.entry))
+      roomy (filling waiting w.message_room) (sent_count e.sent)
+      (filling w.trail w.trail_room) (length (option_to_list e.entry))
       (check e.within (Board (NumberEnds e.node)) (Ok tt))
 
   -- All or nothing.
@@ -129,18 +131,20 @@ module _ {A B : Type 0} (ma : Meaning A) (mb : Meaning B) where
   abbrev pub figures : World A B → Figures
   figures w = record { processors = w.count; counts = length (words_of w 0) ∷ (length (words_of w 1) ∷ []) }
 
+  -- What a message does at the node that it goes to.
+  abbrev pub reacted : World A B → Message ℕ → Option Node → Option (Effect A B)
+  reacted w m None = None
+  reacted w m (Some (node.Processor p)) =
+      option_map (by_processor w p) (processor_messages.receive (processor_at w p) p m)
+  reacted w m (Some (node.Device d)) =
+      if nat_lt d 1
+      then option_map (by_first w) (bridge.receive ma 0 w.first m)
+      else option_map (by_second w) (bridge.receive mb 1 w.second m)
+  reacted w m (Some (node.Home b)) = option_map (by_home w b) (home.received (home_at w b) b m)
+
   -- What a message does at its receiver, or none where it has no rule.
   abbrev pub delivered : World A B → Message ℕ → Option (Effect A B)
-  delivered w m =
-      if well_formed (figures w) m then elim (node_numbered m.receiver) [
-        | None ↦ None
-        | Some (node.Processor p) ↦ option_map (by_processor w p) (processor_messages.receive (processor_at w p) p m)
-        | Some (node.Device d) ↦
-            if nat_lt d 1
-            then option_map (by_first w) (bridge.receive ma 0 w.first m)
-            else option_map (by_second w) (bridge.receive mb 1 w.second m)
-        | Some (node.Home b) ↦ option_map (by_home w b) (home.received (home_at w b) b m)
-      ] else None
+  delivered w m = if well_formed (figures w) m then reacted w m (node_numbered m.receiver) else None
 
   abbrev pub ruled : World A B → ℕ → Option (Effect A B) → Result (Effect A B) Fault
   ruled w i None = Err (Network (NoRule i))
@@ -173,15 +177,19 @@ module _ {A B : Type 0} (ma : Meaning A) (mb : Meaning B) where
       check (nat_lt p w.count) (argument 1) (check (nat_lt b 16) (argument 2)
       (requested w p b (request_numbered k)))
   effect (LdIo p d n) w =
-      check (nat_lt p w.count) (argument 1) (check (nat_lt d 2) (argument 2) (check (nat_lt n (length (words_of w d))) (argument 3)
+      check (nat_lt p w.count) (argument 1) (check (nat_lt d 2) (argument 2)
+      (check (nat_lt n (length (words_of w d))) (argument 3)
       (called w p (processor.ldio (processor_at w p) p d n))))
   effect (StIo p d n v) w =
-      check (nat_lt p w.count) (argument 1) (check (nat_lt d 2) (argument 2) (check (nat_lt n (length (words_of w d))) (argument 3)
+      check (nat_lt p w.count) (argument 1) (check (nat_lt d 2) (argument 2)
+      (check (nat_lt n (length (words_of w d))) (argument 3)
       (called w p (processor.stio (processor_at w p) p d n v))))
   effect (Collect p d) w =
-      check (nat_lt p w.count) (argument 1) (check (nat_lt d 2) (argument 2) (called w p (processor.collect (processor_at w p) d)))
+      check (nat_lt p w.count) (argument 1) (check (nat_lt d 2) (argument 2)
+      (called w p (processor.collect (processor_at w p) d)))
   effect (GiveUp p d) w =
-      check (nat_lt p w.count) (argument 1) (check (nat_lt d 2) (argument 2) (called w p (processor.give_up (processor_at w p) d)))
+      check (nat_lt p w.count) (argument 1) (check (nat_lt d 2) (argument 2)
+      (called w p (processor.give_up (processor_at w p) d)))
   effect (Act d) w = check (nat_lt d 2) (argument 1) (acted w d)
   effect (Deliver i) w =
       check (nat_lt i (length w.messages)) (argument 1)
