@@ -39,7 +39,7 @@ letter_D = 68
 abbrev pub letter_none : ℕ
 letter_none = 45
 
--- The letter of a cell; an operation that the party never does has none.
+-- The letter of a cell, and - for an operation that the party never does.
 abbrev pub cell : Party → Option ℕ → Option ℕ → ℕ
 cell p (Some row) (Some col) = slice_index_or (table p) (width p * row + col) 0
 cell p row col = letter_none

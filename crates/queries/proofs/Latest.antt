@@ -36,14 +36,11 @@ module _ (a : Address) (s : Stamp) where
   Law n es None = Nowhere es
   Law n es (Some c) = Chosen n es c
 
-  -- an entry before the others that is no such write
-  passed_over : (n : ℕ) (e : Entry) (es : List Entry) → writes_below a s e ≡ false → (r : Option Candidate) → Law (n + 1) es r → Law n (e ∷ es) r
-  passed_over n e es no_write None law = nowhere
-    where
-      nowhere : Nowhere (e ∷ es)
-      nowhere zero f h = cc
-      nowhere (suc m) f h = law m f h
-  passed_over n e es no_write (Some c) law = record {
+  -- what is chosen among the others stays chosen behind an entry that, if it is such a write, has a lower stamp
+  behind : (n : ℕ) (e : Entry) (es : List Entry) (c : Candidate) (law : Chosen (n + 1) es c)
+      → ((f : Entry) → ◌≡◌ {A = Option Entry} (Some e) (Some f) → writes_below a s f ≡ true → (below law.write.stamp f.stamp ≡ false) × (below f.stamp law.write.stamp ≡ true))
+      → Chosen n (e ∷ es) c
+  behind n e es c law lower = record {
     place = suc law.place;
     numbered = omega (arith, law.numbered);
     write = law.write;
@@ -56,12 +53,21 @@ module _ (a : Address) (s : Stamp) where
   }
     where
       greatest : (m : ℕ) (f : Entry) → slice_get (e ∷ es) m ≡ Some f → writes_below a s f ≡ true → below law.write.stamp f.stamp ≡ false
-      greatest zero f h w = absurd (cc)
+      greatest zero f h w = (lower f h w).0
       greatest (suc m) f h w = law.greatest m f h w
 
       first : (m : ℕ) (f : Entry) → m < suc law.place → slice_get (e ∷ es) m ≡ Some f → writes_below a s f ≡ true → below f.stamp law.write.stamp ≡ true
-      first zero f l h w = absurd (cc)
+      first zero f l h w = (lower f h w).1
       first (suc m) f l h w = law.first m f (omega arith) h w
+
+  -- an entry before the others that is no such write
+  passed_over : (n : ℕ) (e : Entry) (es : List Entry) → writes_below a s e ≡ false → (r : Option Candidate) → Law (n + 1) es r → Law n (e ∷ es) r
+  passed_over n e es no_write None law = nowhere
+    where
+      nowhere : Nowhere (e ∷ es)
+      nowhere zero f h = cc
+      nowhere (suc m) f h = law m f h
+  passed_over n e es no_write (Some c) law = behind n e es c law (λ f same w. absurd (cc))
 
   abbrev offered : ℕ → Entry → Candidate
   offered n e = record { entry = n; value = value_at e a; stamp = e.stamp }
@@ -87,28 +93,10 @@ module _ (a : Address) (s : Stamp) where
 
   -- an entry that a later one is above
   yields : (n : ℕ) (e : Entry) (es : List Entry) (c : Candidate) → Chosen (n + 1) es c → below e.stamp c.stamp ≡ true → Chosen n (e ∷ es) c
-  yields n e es c law up = record {
-    place = suc law.place;
-    numbered = omega (arith, law.numbered);
-    write = law.write;
-    stands = law.stands;
-    writes = law.writes;
-    value = law.value;
-    stamp = law.stamp;
-    greatest = greatest;
-    first = first;
-  }
-    where
-      over : below e.stamp law.write.stamp ≡ true
-      over = cc
-
-      greatest : (m : ℕ) (f : Entry) → slice_get (e ∷ es) m ≡ Some f → writes_below a s f ≡ true → below law.write.stamp f.stamp ≡ false
-      greatest zero f h w = let back = asymmetric e.stamp law.write.stamp over in cc
-      greatest (suc m) f h w = law.greatest m f h w
-
-      first : (m : ℕ) (f : Entry) → m < suc law.place → slice_get (e ∷ es) m ≡ Some f → writes_below a s f ≡ true → below f.stamp law.write.stamp ≡ true
-      first zero f l h w = cc
-      first (suc m) f l h w = law.first m f (omega arith) h w
+  yields n e es c law up =
+      let over : below e.stamp law.write.stamp ≡ true = cc in
+      let back = asymmetric e.stamp law.write.stamp over in
+      behind n e es c law (λ f same w. (cc, cc))
 
   chosen_over : (n : ℕ) (e : Entry) (es : List Entry) → writes_below a s e ≡ true → (r : Option Candidate) → Law (n + 1) es r
       → Law n (e ∷ es) (later (Some (offered n e)) r)
