@@ -8,11 +8,12 @@ ghost use Rattle.device.specs.Showing.{window_laws};
 use crate::meaning::{Device, NoWord, Wish};
 use ordering::operation::{Operation, Words};
 
-// By rule the wish of a hidden word goes out with a place, so it is a number and no `None`.
+// The wish of a word that is not shown goes out with a place all the same, so this is a number and no `None`.
 /// Where a word stands that the window does not show: past the words of any device.
 const NOT_SHOWN: u32 = 64;
 
-#[derive(Drop)]
+/// Shows `size` words of a device from `first`, and hands on all else.
+#[derive(Debug, Drop, PartialEq, Eq)]
 pub struct Window<D> {
     device: D,
     first: u32,
