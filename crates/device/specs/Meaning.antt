@@ -12,7 +12,8 @@ pub record Meaning (S : Type 0) : Type 0 where
   pub accepted : S → ℕ → S
   pub landed : S → ℕ → Words → S
 
--- Writing puts a value at its place. Nothing else changes a word, and nothing changes their number. A wish has four words.
+-- Writing puts a value at its place. Nothing else changes a word, and nothing changes their number. A wish has four
+-- words.
 pub record Laws {S : Type 0} (m : Meaning S) : Type 0 where
   pub writing_words : (s : S) (p v : ℕ) → m.words (m.writing s p v) ≡ slice_set (m.words s) p v
   pub reading_words : (s : S) (p : ℕ) → m.words (m.reading s p) ≡ m.words s

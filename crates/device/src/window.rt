@@ -65,7 +65,8 @@ impl<D: Device> Window<D> {
     // Where the device below has a word that is shown.
     #[tactic(auto, using(crate::specs::Showing::shown_at))]
     fn place_below(&self, place: u32) -> Option<u32>
-        ensures { Shows self.now.first self.now.size (D.Device.meaning.words (D.Device.state self.now.device)) place result }
+        ensures { Shows self.now.first self.now.size (D.Device.meaning.words (D.Device.state self.now.device))
+            place result }
     {
         let count = self.device.count();
         if place < shown_count(self.first, self.size, count) {

@@ -83,14 +83,19 @@ held Device e l =
     else letter_none
 
 abbrev pub TablesInWords : Type 0
-TablesInWords = (p : Party) (e l : Operation) → letter p e l ≡ (if does p e && does p l then held p e l else letter_none)
+TablesInWords =
+    (p : Party) (e l : Operation) → letter p e l ≡ (if does p e && does p l then held p e l else letter_none)
 
--- The rule in words, by the letter of the cell: one space and one place, or an A, always order two operations; else a D does
--- if both go to one device or, of an INT, to one processor; and nothing else does.
+-- The rule in words, by the letter of the cell: one space and one place, or an A, always order two operations; else a
+-- D does if both go to one device or, of an INT, to one processor; and nothing else does.
 pub record RuleInWords : Type 0 where
   pub one_word : (p : Party) (e l : Access) → e.space ≡ l.space → e.place ≡ l.place → ordered p e l ≡ true
   pub always : (p : Party) (e l : Access) → letter p e.operation l.operation ≡ letter_A → ordered p e l ≡ true
-  pub one_device : (p : Party) (e l : Access) → letter p e.operation l.operation ≡ letter_D → is Int e.operation ≡ false → ordered p e l ≡ (e.space == l.space)
-  pub one_processor : (p : Party) (e l : Access) → letter p e.operation l.operation ≡ letter_D → is Int e.operation ≡ true → ordered p e l ≡ (e.place == l.place)
-  pub other_space : (p : Party) (e l : Access) → letter p e.operation l.operation ≡ letter_none → e.space ≢ l.space → ordered p e l ≡ false
-  pub other_place : (p : Party) (e l : Access) → letter p e.operation l.operation ≡ letter_none → e.place ≢ l.place → ordered p e l ≡ false
+  pub one_device : (p : Party) (e l : Access) → letter p e.operation l.operation ≡ letter_D
+      → is Int e.operation ≡ false → ordered p e l ≡ (e.space == l.space)
+  pub one_processor : (p : Party) (e l : Access) → letter p e.operation l.operation ≡ letter_D
+      → is Int e.operation ≡ true → ordered p e l ≡ (e.place == l.place)
+  pub other_space : (p : Party) (e l : Access) → letter p e.operation l.operation ≡ letter_none
+      → e.space ≢ l.space → ordered p e l ≡ false
+  pub other_place : (p : Party) (e l : Access) → letter p e.operation l.operation ≡ letter_none
+      → e.place ≢ l.place → ordered p e l ≡ false

@@ -69,4 +69,5 @@ ended (l ∷ ls) = l ++ 10 ∷ ended ls
 
 pub record LinesAreReadBack : Type 0 where
   pub all_ended : (ls : List (List ℕ)) → AllByRecursion Whole ls → lines_of (ended ls) ≡ ls
-  pub last_open : (ls : List (List ℕ)) (x : ℕ) (xs : List ℕ) → AllByRecursion Whole ls → Whole (x ∷ xs) → lines_of (ended ls ++ x ∷ xs) ≡ ls ++ (x ∷ xs) ∷ []
+  pub last_open : (ls : List (List ℕ)) (x : ℕ) (xs : List ℕ) → AllByRecursion Whole ls → Whole (x ∷ xs)
+      → lines_of (ended ls ++ x ∷ xs) ≡ ls ++ (x ∷ xs) ∷ []

@@ -43,7 +43,8 @@ impl<'a> Fields<'a> {
 impl<'a> Iterator for Fields<'a> {
     type Item = &'a [u8];
 
-    ghost next_gives = { λ s r t. (option_map (λ x. x.now) r ≡ first_field (unread s)) × (unread t ≡ other_fields (unread s)) };
+    ghost next_gives = { λ s r t. (option_map (λ x. x.now) r ≡ first_field (unread s))
+        × (unread t ≡ other_fields (unread s)) };
 
     ghost remaining = { λ s. at_most (length s.parts.bytes.now + 1 - s.parts.at) };
 
