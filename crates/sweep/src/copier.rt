@@ -1,5 +1,5 @@
-//! A device of the program's own, to show that any will do: told by a 1 in word 0, it loads its word 1 and stores
-//! it to its word 2. It also counts how often it was read, which its meaning leaves out.
+//! A device of the program's own, to show that any will do: once 1 is written to its word 0, it loads its word 1
+//! and stores it to its word 2. It also counts how often it was read, which its meaning leaves out.
 
 ghost use Rattle.std.specs.Prelude.{◌≡◌};
 ghost use Rattle.sweep.specs.declared.copier.Copying.{Copying};
@@ -14,20 +14,20 @@ const SOURCE: u32 = 1;
 
 const TARGET: u32 = 2;
 
-#[derive(Clone, Copy)]
+#[derive(Clone, Copy, Debug, PartialEq, Eq)]
 pub enum Phase {
     Rest,
     Load,
     Store(u32),
 }
 
-#[derive(Clone, Copy)]
+#[derive(Clone, Copy, Debug, PartialEq, Eq)]
 pub struct Copying {
     words: Registers<3>,
     phase: Phase,
 }
 
-#[derive(Clone, Copy)]
+#[derive(Clone, Copy, Debug, PartialEq, Eq)]
 pub struct Copier {
     copying: Copying,
     reads: u32,

@@ -1,4 +1,4 @@
--- Sweeps of both devices, told by the places of their words, wish by wish.
+-- Sweeps of both devices, by the places of their words, wish by wish.
 use Rattle.std.specs.Prelude.{◌≡◌, ℕ, List, [], ◌∷◌, Some, None, Option}
 use Rattle.ordering.specs.Words.{no_words}
 use Rattle.ordering.specs.declared.operation.Operation.TheVariants.{LdBlk, StBlk}

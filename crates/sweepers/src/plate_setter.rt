@@ -12,7 +12,7 @@ use ordering::operation::{Operation, Words};
 pub type PlateSetter = Sweeper<Fetching, 12>;
 
 /// Each block is read, and then the processor interrupted with value 1.
-#[derive(Clone, Copy)]
+#[derive(Clone, Copy, Debug, PartialEq, Eq)]
 pub struct Fetching;
 
 impl Job<12> for Fetching {

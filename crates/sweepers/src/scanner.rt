@@ -13,7 +13,7 @@ use ordering::operation::{Operation, Words};
 pub type Scanner = Sweeper<Storing, 8>;
 
 /// The row is stored to each block, and then the processor interrupted with value 2.
-#[derive(Clone, Copy)]
+#[derive(Clone, Copy, Debug, PartialEq, Eq)]
 pub struct Storing;
 
 const ROW: usize = 4;

@@ -4,7 +4,7 @@ ghost use Rattle.std.specs.Prelude.{◌≡◌};
 ghost use Rattle.sweepers.specs.Sweeps.{commanded, advanced, stage_of};
 
 /// A sweep that was started, and how many of its blocks were accepted.
-#[derive(Clone, Copy)]
+#[derive(Clone, Copy, Debug, PartialEq, Eq)]
 pub struct Sweep {
     first: u32,
     count: u32,
@@ -12,7 +12,7 @@ pub struct Sweep {
 }
 
 /// What a sweep is at.
-#[derive(Clone, Copy)]
+#[derive(Clone, Copy, Debug, PartialEq, Eq)]
 pub enum Stage {
     Block(u32),
     Interrupt,
