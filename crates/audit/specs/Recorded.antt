@@ -1,5 +1,5 @@
 -- An entry as it is recorded in a line of text.
-use Rattle.std.specs.Prelude.{ℕ, cond, List, [], ◌∷◌, Some, None, Option}
+use Rattle.std.specs.Prelude.{ℕ, if◌then◌else◌, List, [], ◌∷◌, Some, None, Option}
 use Rattle.ordering.specs.Operations.{name_of}
 use Rattle.ordering.specs.declared.operation.Operation.{Operation}
 use Rattle.ordering.specs.declared.operation.Operation.TheVariants.{Ld, St, LdIo, StIo, Int, LdBlk, StBlk}
@@ -12,14 +12,14 @@ use Rattle.trail.specs.declared.entry.Entry.{Entry}
 
 abbrev pub named : List ℕ → Option Operation
 named n =
-    cond (bytes_eq n (name_of Ld)) (Some Ld)
-    (cond (bytes_eq n (name_of St)) (Some St)
-    (cond (bytes_eq n (name_of LdIo)) (Some LdIo)
-    (cond (bytes_eq n (name_of StIo)) (Some StIo)
-    (cond (bytes_eq n (name_of Int)) (Some Int)
-    (cond (bytes_eq n (name_of LdBlk)) (Some LdBlk)
-    (cond (bytes_eq n (name_of StBlk)) (Some StBlk)
-    None))))))
+    if bytes_eq n (name_of Ld) then Some Ld
+    else if bytes_eq n (name_of St) then Some St
+    else if bytes_eq n (name_of LdIo) then Some LdIo
+    else if bytes_eq n (name_of StIo) then Some StIo
+    else if bytes_eq n (name_of Int) then Some Int
+    else if bytes_eq n (name_of LdBlk) then Some LdBlk
+    else if bytes_eq n (name_of StBlk) then Some StBlk
+    else None
 
 abbrev pub next_named : Option (List ℕ) → Option Operation
 next_named None = None
