@@ -1,7 +1,7 @@
 //! The calls of the board, after it is made.
 
 /// Any numbers may be given; those outside their range are refused.
-#[derive(Clone, Copy)]
+#[derive(Clone, Copy, Debug, PartialEq, Eq)]
 pub enum Call {
     Load {
         processor: u32,

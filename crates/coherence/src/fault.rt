@@ -10,7 +10,7 @@ use bridge::fault::DeviceFault;
 use processor::refusal::Refusal;
 use trail::fault::SourceFault;
 
-#[derive(Clone, Copy)]
+#[derive(Clone, Copy, Debug, PartialEq, Eq)]
 pub enum NetworkFault {
     /// An older message of the pair waits, at this place.
     OlderWaits(usize),
@@ -20,7 +20,7 @@ pub enum NetworkFault {
     MessagesFull(usize),
 }
 
-#[derive(Clone, Copy)]
+#[derive(Clone, Copy, Debug, PartialEq, Eq)]
 pub enum BoardFault {
     /// The board was made outside its figures.
     NotFit,
@@ -34,14 +34,14 @@ pub enum BoardFault {
     NumberEnds(u32),
 }
 
-#[derive(Clone, Copy)]
+#[derive(Clone, Copy, Debug, PartialEq, Eq)]
 pub enum Layer {
     Device,
     Network,
     Board,
 }
 
-#[derive(Clone, Copy)]
+#[derive(Clone, Copy, Debug, PartialEq, Eq)]
 pub enum Fault {
     Device(DeviceFault),
     Network(NetworkFault),

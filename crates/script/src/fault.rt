@@ -6,7 +6,7 @@ ghost use Rattle.script.specs.declared.fault.ScriptFault.TheVariants.{NotOfForm,
 
 use coherence::fault::{Fault, Layer};
 
-#[derive(Clone, Copy)]
+#[derive(Clone, Copy, Debug, PartialEq, Eq)]
 pub enum ScriptFault {
     /// The line with this number, from 1, is not of the form.
     NotOfForm(usize),

@@ -7,7 +7,7 @@ use crate::line::Line;
 use text::{Fields, Lines};
 
 /// The script, up to which place it has been read, and the number of the next line.
-#[derive(Clone, Copy)]
+#[derive(Clone, Copy, Debug, PartialEq, Eq)]
 pub struct Reader<'a> {
     lines: Lines<'a>,
     number: usize,

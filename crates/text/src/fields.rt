@@ -9,7 +9,7 @@ use crate::bytes::decimal;
 use crate::parts::Parts;
 
 /// A line and the place up to which it has been read.
-#[derive(Clone, Copy)]
+#[derive(Clone, Copy, Debug, PartialEq, Eq)]
 pub struct Fields<'a> {
     parts: Parts<'a, b'\t'>,
 }

@@ -7,7 +7,7 @@ ghost use Rattle.text.specs.Parts.{lines_of, lines_left, LinesAreReadBack};
 use crate::parts::Parts;
 
 /// A text and the place up to which it has been read.
-#[derive(Clone, Copy)]
+#[derive(Clone, Copy, Debug, PartialEq, Eq)]
 pub struct Lines<'a> {
     parts: Parts<'a, b'\n'>,
 }
