@@ -23,9 +23,9 @@ Plates = Window PlateSetter
 abbrev pub board_making : List Text → Records (Message ℕ) → Records Entry → Making Plates Scanner
 board_making lines ms es = script_making lines (replicate 64 0) (window blank_plate 4 8) blank_scanner ms es
 
--- What is told of the lines, with these lists.
-abbrev pub told : List Text → Records (Message ℕ) → Records Entry → Records Outcome → List ℕ
-told lines ms es os =
+-- The output for the lines, with these lists.
+abbrev pub output_with : List Text → Records (Message ℕ) → Records Entry → Records Outcome → List ℕ
+output_with lines ms es os =
     let k = board_making lines ms es in
     let made = make (window_meaning plate_meaning) scanner_meaning k in
     let after = (run (window_meaning plate_meaning) scanner_meaning k (calls_of (later lines))).world in
@@ -42,4 +42,4 @@ empty room = record { records = []; room = room }
 
 -- Room for 64 waiting messages, 512 entries and 65,536 lines.
 abbrev pub output_of : List ℕ → List ℕ
-output_of script = told (script_lines script) (empty 64) (empty 512) (empty 65536)
+output_of script = output_with (script_lines script) (empty 64) (empty 512) (empty 65536)

@@ -13,7 +13,7 @@ use Rattle.script.specs.declared.outcome.Outcome.{Outcome}
 use Rattle.trail.specs.declared.entry.Entry.{Entry}
 use Rattle.console.specs.Program.{Plates, board_making}
 use Rattle.console.specs.Report.{report}
-use Rattle.console.proofs.program.told.Goals as goal
+use Rattle.console.proofs.program.output_with.Goals as goal
 
 pub returns : goal.returns
 returns c =
