@@ -22,9 +22,9 @@ struct Asked {
     again: Fault,
 }
 
-/// What the shift's calls told.
-#[derive(Clone, Copy)]
-pub struct Told {
+/// What the shift's calls answered.
+#[derive(Clone, Copy, Debug, PartialEq, Eq)]
+pub struct Report {
     /// Why processor 1 could not ask for a second word of one device.
     pub again: Fault,
     /// Why processor 0 could not collect at first.
@@ -70,7 +70,7 @@ fn first_reads(
     requires world { world lamps lamps board.old.board messages.old trail.old ≡ reached 5 }
     requires ticket { (ticket.processor ≡ 0) × (ticket.device ≡ 0) }
     ensures world { world lamps lamps board.new.board messages.new trail.new ≡ reached 10 }
-    ensures told { (result.0 ≡ too_early 0) × (result.1 ≡ 7) }
+    ensures answers { (result.0 ≡ too_early 0) × (result.1 ≡ 7) }
 {
     let _ = board.deliver(messages, trail, 0);
     let _ = board.deliver(messages, trail, 0);
@@ -105,7 +105,7 @@ fn third_reads(
     requires world { world lamps lamps board.old.board messages.old trail.old ≡ reached 13 }
     requires ticket { (ticket.processor ≡ 2) × (ticket.device ≡ 1) }
     ensures world { world lamps lamps board.new.board messages.new trail.new ≡ reached 16 }
-    ensures told { result ≡ 23 }
+    ensures answers { result ≡ 23 }
 {
     let _ = board.deliver(messages, trail, 0);
     let _ = board.deliver(messages, trail, 0);
@@ -117,10 +117,10 @@ pub fn work(
     board: &mut Ticketed<Bank, Bank>,
     messages: &mut List<Message>,
     trail: &mut List<Entry>,
-) -> Told
+) -> Report
     requires { world lamps lamps board.old.board messages.old trail.old ≡ reached 0 }
     ensures world { world lamps lamps board.new.board messages.new trail.new ≡ reached 16 }
-    ensures told { result ≡ record { again = slot_taken 0; early = too_early 0; first = 7; third = 23 } }
+    ensures answers { result ≡ record { again = slot_taken 0; early = too_early 0; first = 7; third = 23 } }
 {
     let asked = ask_all(board, messages, trail);
     let Asked {
@@ -132,7 +132,7 @@ pub fn work(
     let (early, first) = first_reads(board, messages, trail, first);
     second_gives_up(board, messages, trail, second);
     let third = third_reads(board, messages, trail, third);
-    Told {
+    Report {
         again,
         early,
         first,
