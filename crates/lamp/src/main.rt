@@ -4,7 +4,6 @@
 
 mod bank;
 mod shift;
-mod start;
 #[cfg(test)]
 mod tests;
 mod tickets;
@@ -15,8 +14,7 @@ use list::List;
 use message::kind::Kind;
 use message::message::Message;
 use raster::ticket::Ticketed;
-use shift::{Report, work};
-use start::start;
+use shift::{Report, start, work};
 use std::io;
 use trail::entry::Entry;
 use words::{Done, Refused, Source};

@@ -1,9 +1,10 @@
-//! A shift of three processors at the lamps. Each phase says in which world it begins and in which it ends, so that what
-//! its calls answer is known, and every ticket is spent.
+//! A shift of three processors at two banks of lamps. Each phase says in which world it begins and in which it ends, so
+//! that what its calls answer is known, and every ticket is spent.
 
 ghost use Rattle.std.specs.Prelude.{◌≡◌};
 ghost use Rattle.lamp.specs.Banks.{lamps};
 ghost use Rattle.lamp.specs.Shifts.{reached, slot_taken, too_early};
+ghost use Rattle.list.specs.Contents.{room};
 ghost use Rattle.raster.specs.Boards.{world};
 
 use crate::bank::Bank;
@@ -11,6 +12,7 @@ use crate::tickets::{ask, ask_in_vain, collect, collect_in_vain, give_up};
 use coherence::fault::Fault;
 use list::List;
 use message::message::Message;
+use raster::board::Board;
 use raster::ticket::{Ticket, Ticketed};
 use trail::entry::Entry;
 
@@ -32,6 +34,16 @@ pub struct Report {
     /// The words that processors 0 and 2 got.
     pub first: u32,
     pub third: u32,
+}
+
+/// The board as the shift begins: three processors and two banks of lamps. Both lists are emptied.
+pub fn start(messages: &mut List<Message>, trail: &mut List<Entry>) -> Ticketed<Bank, Bank>
+    requires { (room messages.old ≡ 16) × (room trail.old ≡ 16) }
+    ensures { world lamps lamps result.board messages.new trail.new ≡ reached 0 }
+{
+    let first = Bank::new([10, 11, 12, 13]);
+    let second = Bank::new([20, 21, 22, 23]);
+    Ticketed::new(Board::make(3, 0, &[0; 64], first, second, messages, trail))
 }
 
 // Processor 0 lights lamp 1 of bank 0, and each asks for a lamp.
