@@ -26,7 +26,8 @@ abbrev pub judged : ℕ → ℕ → List ℕ
 judged v g = if v == g then codes "agrees" else codes "differs"
 
 abbrev pub sourced_line : ℕ → ℕ → ℕ → ℕ → List ℕ → List ℕ
-sourced_line n w m v verdict = decimal n ++ (tab ++ (decimal w ++ (tab ++ (decimal m ++ (tab ++ (decimal v ++ (tab ++ verdict)))))))
+sourced_line n w m v verdict =
+    decimal n ++ (tab ++ (decimal w ++ (tab ++ (decimal m ++ (tab ++ (decimal v ++ (tab ++ verdict)))))))
 
 abbrev pub line_of : Finding → List ℕ
 line_of f =

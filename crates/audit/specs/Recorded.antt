@@ -53,6 +53,7 @@ then_stamp r k = elim (next_stamp r) [ None ↦ None | Some s ↦ k s (after_sta
 -- Party, sequence number, operation, space, place, four values, global, local, node, and nothing more.
 abbrev pub recorded : List ℕ → Option Entry
 recorded line =
-    then_number (Some line) (λ p r₁. then_number r₁ (λ n r₂. then_named r₂ (λ o r₃. then_number r₃ (λ s r₄. then_number r₄ (λ w r₅.
+    then_number (Some line) (λ p r₁. then_number r₁ (λ n r₂. then_named r₂ (λ o r₃.
+    then_number r₃ (λ s r₄. then_number r₄ (λ w r₅.
     then_words r₅ (λ vs r₆. then_stamp r₆ (λ t r₇.
     at_end r₇ (record { party = p; sequence = n; operation = o; space = s; place = w; values = vs; stamp = t }))))))))

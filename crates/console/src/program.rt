@@ -1,4 +1,5 @@
-//! All that the program `board` writes: a script is played on one board, from zero memory, and what came of it is reported.
+//! All that the program `board` writes: a script is played on one board, from zero memory, and what came of it is
+//! reported.
 
 ghost use Rattle.std.specs.Prelude.{◌≡◌, IfOk, OnOk, string_bytes};
 ghost use Rattle.script.specs.Lines.{script_lines};
@@ -24,7 +25,8 @@ fn output_with(
     trail: &mut List<Entry>,
     outcomes: &mut List<Outcome>,
 ) -> Result<String, AllocError>
-    ensures text { IfOk result (λ text. string_bytes text ≡ output_with (script_lines script.now) messages.old trail.old outcomes.old) }
+    ensures text { IfOk result (λ text.
+        string_bytes text ≡ output_with (script_lines script.now) messages.old trail.old outcomes.old) }
     ensures promise { Kept (script_lines script.now) messages.old trail.old }
 {
     let plates = Window::new(PlateSetter::new(), 4, 8);

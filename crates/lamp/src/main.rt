@@ -1,4 +1,5 @@
-//! Processors read lamps by ticket: who asks for a word holds a ticket for it until it collects the word or gives it up.
+//! Processors read lamps by ticket: who asks for a word holds a ticket for it until it collects the word or gives it
+//! up.
 
 #![tactic(auto)]
 

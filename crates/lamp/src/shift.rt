@@ -16,14 +16,6 @@ use raster::board::Board;
 use raster::ticket::{Ticket, Ticketed};
 use trail::entry::Entry;
 
-// The tickets of processors 0, 1 and 2, and why processor 1 could not ask twice.
-struct Asked {
-    first: Ticket,
-    second: Ticket,
-    third: Ticket,
-    again: Fault,
-}
-
 /// What the shift's calls answered.
 #[derive(Clone, Copy, Debug, PartialEq, Eq)]
 pub struct Report {
@@ -44,32 +36,6 @@ pub fn start(messages: &mut List<Message>, trail: &mut List<Entry>) -> Ticketed<
     let first = Bank::new([10, 11, 12, 13]);
     let second = Bank::new([20, 21, 22, 23]);
     Ticketed::new(Board::make(3, 0, &[0; 64], first, second, messages, trail))
-}
-
-// Processor 0 lights lamp 1 of bank 0, and each asks for a lamp.
-fn ask_all(
-    board: &mut Ticketed<Bank, Bank>,
-    messages: &mut List<Message>,
-    trail: &mut List<Entry>,
-) -> Asked
-    requires { world lamps lamps board.old.board messages.old trail.old ≡ reached 0 }
-    ensures world { world lamps lamps board.new.board messages.new trail.new ≡ reached 5 }
-    ensures first { (result.first.processor ≡ 0) × (result.first.device ≡ 0) }
-    ensures second { (result.second.processor ≡ 1) × (result.second.device ≡ 0) }
-    ensures third { (result.third.processor ≡ 2) × (result.third.device ≡ 1) }
-    ensures again { result.again ≡ slot_taken 0 }
-{
-    let _ = board.stio(messages, trail, 0, 0, 1, 7);
-    let first = ask(board, messages, trail, 0, 0, 1);
-    let second = ask(board, messages, trail, 1, 0, 2);
-    let third = ask(board, messages, trail, 2, 1, 3);
-    let again = ask_in_vain(board, messages, trail, 1, 0, 0);
-    Asked {
-        first,
-        second,
-        third,
-        again,
-    }
 }
 
 // Processor 0 is refused while its word is under way, and gets it once it came.
@@ -124,7 +90,8 @@ fn third_reads(
     collect(board, messages, trail, ticket)
 }
 
-/// The whole shift.
+/// The whole shift: processor 0 lights lamp 1 of bank 0, each processor asks for a lamp, and processor 1 asks once more in
+/// vain; then the words are read or given up.
 pub fn work(
     board: &mut Ticketed<Bank, Bank>,
     messages: &mut List<Message>,
@@ -134,13 +101,11 @@ pub fn work(
     ensures world { world lamps lamps board.new.board messages.new trail.new ≡ reached 16 }
     ensures answers { result ≡ record { again = slot_taken 0; early = too_early 0; first = 7; third = 23 } }
 {
-    let asked = ask_all(board, messages, trail);
-    let Asked {
-        first,
-        second,
-        third,
-        again,
-    } = asked;
+    let _ = board.stio(messages, trail, 0, 0, 1, 7);
+    let first = ask(board, messages, trail, 0, 0, 1);
+    let second = ask(board, messages, trail, 1, 0, 2);
+    let third = ask(board, messages, trail, 2, 1, 3);
+    let again = ask_in_vain(board, messages, trail, 1, 0, 0);
     let (early, first) = first_reads(board, messages, trail, first);
     second_gives_up(board, messages, trail, second);
     let third = third_reads(board, messages, trail, third);

@@ -41,7 +41,8 @@ abbrev pub asked : Option (Result Opening ScriptFault) → Opening
 asked (Some (Ok o)) = o
 asked _ = opening 0 0
 
-abbrev pub script_making : {A B : Type 0} → List Text → List ℕ → A → B → Records (Message ℕ) → Records Entry → Making A B
+abbrev pub script_making : {A B : Type 0} → List Text → List ℕ → A → B → Records (Message ℕ) → Records Entry
+    → Making A B
 script_making lines ws a b ms es =
     let o = asked (first_line lines) in
     making o.processors o.clock ws a b ms es

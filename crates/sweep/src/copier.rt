@@ -14,6 +14,7 @@ const SOURCE: u32 = 1;
 
 const TARGET: u32 = 2;
 
+/// What the copier is at: nothing, the load of its word 1, or the store of what it loaded.
 #[derive(Clone, Copy, Debug, PartialEq, Eq)]
 pub enum Phase {
     Rest,
@@ -21,12 +22,14 @@ pub enum Phase {
     Store(u32),
 }
 
+/// All that the copier's meaning speaks of.
 #[derive(Clone, Copy, Debug, PartialEq, Eq)]
 pub struct Copying {
     words: Registers<3>,
     phase: Phase,
 }
 
+/// The copier, and how often it was read.
 #[derive(Clone, Copy, Debug, PartialEq, Eq)]
 pub struct Copier {
     copying: Copying,
@@ -34,6 +37,7 @@ pub struct Copier {
 }
 
 impl Copier {
+    /// All words 0, at rest, never read.
     pub fn new() -> Copier
         ensures { result ≡ blank_copier }
     {

@@ -9,6 +9,7 @@ use device::meaning::Wish;
 use device::registers::Registers;
 use ordering::operation::{Operation, Words};
 
+/// The plate setter with all its 12 words, the four service words among them.
 pub type PlateSetter = Sweeper<Fetching, 12>;
 
 /// Each block is read, and then the processor interrupted with value 1.

@@ -22,6 +22,7 @@ impl Sweep {
     /// The command that starts a sweep; any other stops it.
     pub const START: u32 = 1;
 
+    /// The sweep of `count` blocks from `first`, if the command starts one.
     pub fn commanded(command: u32, first: u32, count: u32) -> Option<Sweep>
         ensures { result ≡ commanded command first count }
     {
@@ -33,7 +34,7 @@ impl Sweep {
         (command == Sweep::START).then_some(started)
     }
 
-    /// Block numbers wrap at the end of 32 bits.
+    /// The block that is next, or the interrupt after the last. Block numbers wrap at the end of 32 bits.
     pub fn stage(self) -> Stage
         ensures { result ≡ stage_of self }
     {

@@ -1,6 +1,6 @@
 use Rattle.std.proofs.Common.{◌≡◌, Err, refl, lit<}
 use Rattle.lamp.proofs.Shifting.{accepted, answer, next, next_two}
-use Rattle.lamp.proofs.shift.ask_all.Goals as goal
+use Rattle.lamp.proofs.shift.work.Goals as goal
 use Rattle.lamp.specs.Shifts.{reached, slot_taken}
 
 pub ask-first-requires : goal.ask-first-requires
@@ -26,16 +26,17 @@ ask_in_vain-again-requires c =
     let w4 = next_two 2 _ _ _ _ _ (lit< tt) w2 c.ask-second.ensures.step c.ask-third.ensures.step in
     accepted 4 _ _ _ refl w4 refl
 
-pub returns-clause-world : goal.returns-clause-world
-returns-clause-world c =
+pub first_reads-early-requires-clause-world : goal.first_reads-early-requires-clause-world
+first_reads-early-requires-clause-world c =
     let w2 = next_two 0 _ _ _ _ _ (lit< tt) c.requires c.stio.ensures.step c.ask-first.ensures.step in
     let w4 = next_two 2 _ _ _ _ _ (lit< tt) w2 c.ask-second.ensures.step c.ask-third.ensures.step in
     next 4 _ _ _ w4 c.ask_in_vain-again.ensures (lit< tt)
 
-pub returns-clause-again : goal.returns-clause-again
+pub returns-clause-answers : goal.returns-clause-answers
 unfolding reached
-returns-clause-again c =
+returns-clause-answers c =
     let w2 = next_two 0 _ _ _ _ _ (lit< tt) c.requires c.stio.ensures.step c.ask-first.ensures.step in
     let w4 = next_two 2 _ _ _ _ _ (lit< tt) w2 c.ask-second.ensures.step c.ask-third.ensures.step in
     let is : Err c.ask_in_vain-again.result ≡ Err (slot_taken 0) = answer 4 _ _ _ w4 c.ask_in_vain-again.ensures in
-    cc
+    let again : c.ask_in_vain-again.result ≡ slot_taken 0 = cc in
+    rw (again, c.first_reads-early.ensures.answers.0, c.first_reads-early.ensures.answers.1, c.third_reads-third.ensures.answers) refl
