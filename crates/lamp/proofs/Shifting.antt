@@ -47,22 +47,17 @@ next_two n w v u r q two at first second =
 pub accepted : (n : ℕ) (c : Call) (w : Banks) (b : Bool) → c ≡ call_at n → w ≡ reached n
     → accepts bank_meaning bank_meaning (call_at n) (reached n) ≡ b → accepts bank_meaning bank_meaning c w ≡ b
 accepted n c w b is at known =
-    ap (λ (d : Call). accepts bank_meaning bank_meaning d w) is ∙ ap (accepts bank_meaning bank_meaning (call_at n)) at ∙ known
+    ap (λ (d : Call). accepts bank_meaning bank_meaning d w) is
+    ∙ ap (accepts bank_meaning bank_meaning (call_at n)) at
+    ∙ known
 
 -- Where the shift begins, by the words of both banks and the rooms of both lists.
 abbrev pub begin : List ℕ → List ℕ → ℕ → ℕ → Banks
 begin a b m t =
-    make bank_meaning bank_meaning (record {
-      processors = 3;
-      clock = 0;
-      words = shift_board.words;
-      first = a;
-      second = b;
-      message_room = m;
-      trail_room = t;
-    })
+    make bank_meaning bank_meaning (record shift_board { first = a; second = b; message_room = m; trail_room = t })
 
-pub begins : (a b : List ℕ) (m t : ℕ) → a ≡ shift_board.first → b ≡ shift_board.second → m ≡ 16 → t ≡ 16 → begin a b m t ≡ reached 0
+pub begins : (a b : List ℕ) (m t : ℕ) → a ≡ shift_board.first → b ≡ shift_board.second → m ≡ 16 → t ≡ 16
+    → begin a b m t ≡ reached 0
 unfolding reached
 begins a b m t first second messages trail =
     ap (λ (x : List ℕ). begin x b m t) first

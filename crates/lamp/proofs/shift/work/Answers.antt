@@ -39,4 +39,5 @@ returns-clause-answers c =
     let w4 = next_two 2 _ _ _ _ _ (lit< tt) w2 c.ask-second.ensures.step c.ask-third.ensures.step in
     let is : Err c.ask_in_vain-again.result ≡ Err (slot_taken 0) = answer 4 _ _ _ w4 c.ask_in_vain-again.ensures in
     let again : c.ask_in_vain-again.result ≡ slot_taken 0 = cc in
-    rw (again, c.first_reads-early.ensures.answers.0, c.first_reads-early.ensures.answers.1, c.third_reads-third.ensures.answers) refl
+    let early = c.first_reads-early.ensures.answers in
+    rw (again, early.0, early.1, c.third_reads-third.ensures.answers) refl
