@@ -1,5 +1,5 @@
 -- A line that is written is read as what it was.
-use Rattle.std.proofs.Common.{◌≡◌, ℕ, ◌<◌, ◌==◌, ◌^◌, false, if◌then◌else◌, List, [], ◌∷◌, ◌++◌, Some, None, Option, refl, ap, ◌∙◌, sym, subst}
+use Rattle.std.proofs.Common.{◌≡◌, ℕ, ◌<◌, ◌==◌, ◌^◌, false, cond, List, [], ◌∷◌, ◌++◌, Some, None, Option, refl, ap, ◌∙◌, sym, subst}
 use Rattle.std.specs.Prelude.{decimal as digits_of}
 use Rattle.std.specs.Option.{option_map}
 use Prim.Native.Char.{code}
@@ -113,6 +113,6 @@ lines_read = record {
       ∙ call_read c (rest (numbers_of c)) (held (numbers_of c) short);
   makings = λ o ps clock.
       let ns = o.processors ∷ (o.clock ∷ []) in
-      letter_then (Some (written "M" ns)) (rest ns) 77 (λ c r. if is c "M" then two r opening else None) (letter 77 refl ns) (after_letter 77 refl ns)
+      letter_then (Some (written "M" ns)) (rest ns) 77 (λ c r. cond (is c "M") (two r opening) None) (letter 77 refl ns) (after_letter 77 refl ns)
       ∙ two_read (rest ns) o.processors o.clock opening (held ns (ps, (clock, tt)));
 }
