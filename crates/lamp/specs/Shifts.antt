@@ -1,4 +1,5 @@
--- The shift that the program shows: what its board is made of, its calls in turn, and the world that so many of them lead to.
+-- The shift that the program shows: what its board is made of, its calls in turn, and the world that so many of them
+-- lead to.
 use Rattle.std.specs.Prelude.{ℕ, Bool, List, [], ◌∷◌, replicate, take, is_ok}
 use Rattle.coherence.specs.Makings.{Making, make}
 use Rattle.coherence.specs.Steps.{step}
@@ -30,7 +31,8 @@ shift_board = record {
   trail_room = 16;
 }
 
--- All ask; what is asked of device 0 comes first. Processor 0 is early, then gets its word; processor 1 gives up; processor 2 waits.
+-- All ask; what is asked of device 0 comes first. Processor 0 is early, then gets its word; processor 1 gives up;
+-- processor 2 waits.
 abbrev pub shift_calls : List Call
 shift_calls =
     StIo 0 0 1 7 ∷ (LdIo 0 0 1 ∷ (LdIo 1 0 2 ∷ (LdIo 2 1 3 ∷ (LdIo 1 0 0

@@ -14,12 +14,12 @@ use Rattle.raster.specs.Runs.{world_after}
 use Rattle.raster.specs.declared.board.Board.{Board}
 use Rattle.trail.specs.declared.entry.Entry.{Entry}
 use Rattle.script.specs.Lines.{Text}
-use Rattle.script.specs.Scripts.{Told, lined, later, calls_of, outcomes_of, noted, script_outcomes}
+use Rattle.script.specs.Scripts.{LineResult, lined, later, calls_of, outcomes_of, noted, script_outcomes}
 use Rattle.script.specs.declared.outcome.Outcome.{Outcome}
 
 module _ {A B : Type 0} (a : Ghosts A) (b : Ghosts B) (x : Board A B) (ms : Records (Message ℕ)) (es : Records Entry) where
   -- A line on this board: what it comes to, and what is left.
-  abbrev pub Lined : Text → Told → Board A B → Records (Message ℕ) → Records Entry → Type 0
+  abbrev pub Lined : Text → LineResult → Board A B → Records (Message ℕ) → Records Entry → Type 0
   Lined l r x₁ ms₁ es₁ = (r, world a.state b.state x₁ ms₁ es₁) ≡ lined a.meaning b.meaning l (world a.state b.state x ms es)
 
 -- From w the lines lead to v; their outcomes are noted in turn.
