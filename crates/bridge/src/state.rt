@@ -3,7 +3,7 @@
 ghost use Rattle.std.specs.Prelude.{◌≡◌};
 ghost use Rattle.bridge.specs.States.{made};
 
-use message::requests::Requests;
+use message::table::Requests;
 use message::table::Table;
 use ordering::clock::Clock;
 

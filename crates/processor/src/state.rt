@@ -6,7 +6,7 @@ ghost use Rattle.processor.specs.States.{made, settled_processor};
 
 use crate::line::Lines;
 use crate::slot::Slots;
-use message::requests::Requests;
+use message::table::Requests;
 use message::table::Table;
 use ordering::clock::{Clock, Settle, settled_next};
 
