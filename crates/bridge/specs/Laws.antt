@@ -1,5 +1,5 @@
 -- What holds of every reaction of a bridge, in every state and around every device.
-use Rattle.std.specs.Prelude.{◌≡◌, ℕ, ◌+◌, ◌<◌, ◌≤◌, Bool, true, false, cond, ◌||◌, ◌⊎◌, List, [], ◌∷◌, length, is_some, Some, None, Err, Option, slice_index, slice_set}
+use Rattle.std.specs.Prelude.{◌≡◌, ℕ, ◌+◌, ◌<◌, ◌≤◌, Bool, true, false, if◌then◌else◌, ◌||◌, ◌⊎◌, List, [], ◌∷◌, length, is_some, Some, None, Err, Option, slice_index, slice_set}
 use Rattle.ordering.specs.Operations.{is, is_block}
 use Rattle.ordering.specs.Stamps.{stamped}
 use Rattle.ordering.specs.Words.{one_word, first_word}
@@ -27,7 +27,7 @@ use Rattle.bridge.specs.States.{made}
 use Rattle.bridge.specs.declared.fault.DeviceFault.{DeviceFault}
 use Rattle.bridge.specs.declared.fault.DeviceFault.TheVariants.{NoWish, BadWish, MustWait}
 use Rattle.bridge.specs.declared.plan.Deed.{Deed}
-use Rattle.bridge.specs.declared.plan.Deed.TheVariants.{Load, Store, Interrupt, Request, Read, Write, Land, Finish, Resend}
+use Rattle.bridge.specs.declared.plan.Deed.TheVariants.{Load, Store, Interrupt, Request, Read, Write, Land}
 use Rattle.bridge.specs.declared.plan.Plan.{Plan}
 use Rattle.bridge.specs.declared.state.Bridge.{Bridge}
 use Rattle.ordering.specs.Clocks.{Earlier}
@@ -52,12 +52,12 @@ pub record EntriesAreStamped {S : Type 0} (m : Meaning S) : Type 0 where
   pub stamps : EachReaction m (λ b d i r. (e : Entry) → r.entry ≡ Some e → (e.stamp ≡ stamped r.next.clock (device_node d)) × (e.space ≡ 1 + d))
   pub own : EachReaction m (λ b d i r. (e : Entry) → r.entry ≡ Some e → message_of i ≡ None → (e.party ≡ device_node d) × (e.sequence ≡ b.sequence))
   pub sent : EachReaction m (λ b d i r. (e : Entry) (x : Message ℕ) → r.entry ≡ Some e → message_of i ≡ Some x → (e.party ≡ x.sender) × (e.sequence ≡ x.sequence))
-  pub numbers : EachReaction m (λ b d i r. r.next.sequence ≡ cond (is_some (message_of i)) b.sequence (b.sequence + 1))
+  pub numbers : EachReaction m (λ b d i r. r.next.sequence ≡ (if is_some (message_of i) then b.sequence else b.sequence + 1))
 
 -- Words once an operation is done: an STio writes its value at its place.
 abbrev pub rewritten : List ℕ → Option Entry → List ℕ
 rewritten ws None = ws
-rewritten ws (Some e) = cond (is operation.StIo e.operation) (slice_set ws e.place (first_word e.values)) ws
+rewritten ws (Some e) = if is operation.StIo e.operation then slice_set ws e.place (first_word e.values) else ws
 
 -- After every reaction the device's words are those before, but for what the entry of an STio says; the entry of
 -- an LDio has the word that stands at its place. Both go to a word that the device has.
@@ -68,22 +68,13 @@ pub record OnlyStoresWrite {S : Type 0} (m : Meaning S) : Type 0 where
 
 -- The VALUE that tells an LDio.
 abbrev pub telling : ℕ → Entry → Message ℕ
-telling d e = record {
-  kind = kind.Value;
-  sender = device_node d;
-  receiver = e.party;
-  place = e.place;
-  words = e.values;
-  clock = e.stamp.global;
-  sequence = 0;
-  exclusive = false;
-  refused = None;
-}
+telling d e =
+    record (plain kind.Value (device_node d) e.party e.place) { words = e.values; clock = e.stamp.global }
 
 -- At Rio an operation is done, and what VALUE carries is what its entry has.
 pub record ValuesAreEntered {S : Type 0} (m : Meaning S) : Type 0 where
   pub entered : (b : Bridge S ℕ) (d : ℕ) (x : Message ℕ) (r : Reaction (Bridge S ℕ)) → receive m d b x ≡ Some r → same_kind x.kind kind.Rio ≡ true → is_some r.entry ≡ true
-  pub told : (b : Bridge S ℕ) (d : ℕ) (x : Message ℕ) (r : Reaction (Bridge S ℕ)) → receive m d b x ≡ Some r → same_kind x.kind kind.Rio ≡ true → (e : Entry) → r.entry ≡ Some e → r.sent ≡ single (telling d e)
+  pub carried : (b : Bridge S ℕ) (d : ℕ) (x : Message ℕ) (r : Reaction (Bridge S ℕ)) → receive m d b x ≡ Some r → same_kind x.kind kind.Rio ≡ true → (e : Entry) → r.entry ≡ Some e → r.sent ≡ single (telling d e)
 
 -- At NACK the bridge stays as it is, and sends the request to the same home once more: the refused kind, the words
 -- and the number that came back, and the clock as it stands now.
@@ -154,8 +145,7 @@ calls_of m s (Request x) = accepts 0 ∷ []
 calls_of m s (Read a) = reads a.place ∷ []
 calls_of m s (Write a v) = writes a.place v ∷ []
 calls_of m s (Land h k ws) = lands k ws ∷ []
-calls_of m s (Finish h k) = []
-calls_of m s (Resend x) = []
+calls_of m s _ = []
 
 -- A plan tells beforehand the numbers that the bridge will have, how many messages it will send, whether it will do
 -- an operation, and what will be done to the device.
@@ -172,4 +162,4 @@ pub record BridgesWriteAsAsked {S : Type 0} (m : Meaning S) : Type 0 where
   pub brought : EachReaction m (λ b d i r. (x : Message ℕ) → message_of i ≡ Some x → (e : Entry) → r.entry ≡ Some e → is operation.StIo e.operation ≡ true → e.values ≡ one_word (first_word x.words))
   pub wished : EachReaction m (λ b d i r. message_of i ≡ None → (h : Wish) → m.wish b.device ≡ Some h → (e : Entry) → r.entry ≡ Some e → is operation.StIo e.operation ≡ true → e.values ≡ one_word (first_word h.words))
   pub stored : EachReaction m (λ b d i r. message_of i ≡ None → (h : Wish) → m.wish b.device ≡ Some h → (y : Message ℕ) → r.sent ≡ single y → same_kind y.kind kind.Wblk ≡ true → y.words ≡ h.words)
-  pub told : EachReaction m (λ b d i r. message_of i ≡ None → (h : Wish) → m.wish b.device ≡ Some h → (y : Message ℕ) → r.sent ≡ single y → same_kind y.kind kind.Int ≡ true → y.words ≡ one_word (first_word h.words))
+  pub interrupted : EachReaction m (λ b d i r. message_of i ≡ None → (h : Wish) → m.wish b.device ≡ Some h → (y : Message ℕ) → r.sent ≡ single y → same_kind y.kind kind.Int ≡ true → y.words ≡ one_word (first_word h.words))

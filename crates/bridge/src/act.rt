@@ -13,7 +13,7 @@ use message::block::Block;
 use message::kind::Kind;
 use message::message::Message;
 use message::node::device_node;
-use message::requests::Requests;
+use message::table::Requests;
 use ordering::clock::Clock;
 use ordering::operation::{Operation, Words};
 

@@ -14,6 +14,7 @@ pub enum DeviceFault {
 }
 
 impl DeviceFault {
+    /// The number by which it is told, from 11 to 13.
     pub fn number(self) -> u32
         ensures { result ≡ fault_number self }
     {
@@ -24,6 +25,7 @@ impl DeviceFault {
         }
     }
 
+    /// The device's number.
     pub fn place(self) -> u32
         ensures { result ≡ fault_place self }
     {

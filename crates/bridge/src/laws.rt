@@ -1,6 +1,8 @@
 //! What holds of every reaction of a bridge, whatever its state, its device and what came.
 
-ghost use Rattle.bridge.specs.Laws.{ClocksGoOn, EntriesAreStamped, OnlyStoresWrite, ValuesAreEntered, RefusedRequestsGoOutAgain, RequestsAreForBlocks, InterruptsWait, WishesAreJudged, BridgesKeepToTheirPart, PlansAreKept, BridgesWriteAsAsked};
+ghost use Rattle.bridge.specs.Laws.{ClocksGoOn, EntriesAreStamped, OnlyStoresWrite, ValuesAreEntered};
+ghost use Rattle.bridge.specs.Laws.{RefusedRequestsGoOutAgain, RequestsAreForBlocks, InterruptsWait, WishesAreJudged};
+ghost use Rattle.bridge.specs.Laws.{BridgesKeepToTheirPart, PlansAreKept, BridgesWriteAsAsked};
 
 use device::meaning::Device;
 
@@ -26,6 +28,7 @@ pub fn values_are_entered<D: Device>()
 {}
 
 /// After NACK the request goes out again, with the clock as it stands now, and nothing else happens.
+#[tactic(auto, using(crate::proofs::Asking::refused_requests_go_out_again))]
 pub fn refused_requests_go_out_again<D: Device>()
     ensures { RefusedRequestsGoOutAgain D.Device.meaning }
 {}

@@ -1,6 +1,6 @@
 -- What a processor of the board sends is well formed.
-use Rattle.std.proofs.Common.{◌≡◌, ℕ, ◌+◌, ◌<◌, Bool, true, false, ◌&&◌, ◌||◌, ltb, leb, IfSome, Some, None, Option, sym, refl, subst, arith}
-use Rattle.message.specs.Checks.{has_processor, word_count, all_are_zero}
+use Rattle.std.proofs.Common.{◌≡◌, ℕ, ◌+◌, ◌<◌, true, false, ◌&&◌, ltb, leb, IfSome, Some, None, Option, sym, refl, subst, arith}
+use Rattle.message.specs.Checks.{has_processor, word_count}
 use Rattle.message.specs.Forms.{row}
 use Rattle.message.specs.Kinds.{kind_number}
 use Rattle.message.specs.Messages.{plain}
@@ -48,33 +48,34 @@ abbrev ToldWell : Figures → Outcome → Type 0
 ToldWell f o = IfSome o (SendsWell f)
 
 module _ (f : Figures) (n : ℕ) (own : has_processor f n ≡ true) where
-  gives_way_well : (s : Processor ℕ) (h b : ℕ) (l : Line) (x : Bool) (ws : Words) → h ≡ home_node b → b < 16 → (x || all_are_zero ws) ≡ true → SendsWell f (giving_way s n h b l x ws)
-  gives_way_well s h b l x ws is small zero within = grind (arith, nat_tests)
+  gives_way_well : (s : Processor ℕ) (m : Message ℕ) (l : Line) (mine : Option Words) → m.sender ≡ home_node m.place → m.place < 16 → SendsWell f (giving_way s n m l mine)
+  gives_way_well s m l None is small within = grind (arith, nat_tests)
+  gives_way_well s m l (Some ws) is small within = grind (arith, nat_tests)
 
-  takes_well : (s : Processor ℕ) (h b c : ℕ) → h ≡ home_node b → b < 16 → SendsWell f (taking s n h b c)
-  takes_well s h b c is small within = (taken_well f n h b (or_left (has_processor f n) _ own) is small, tt)
+  takes_well : (s : Processor ℕ) (m : Message ℕ) → m.sender ≡ home_node m.place → m.place < 16 → SendsWell f (taking s n m)
+  takes_well s m is small within = (taken_well f n m.sender m.place (or_left (has_processor f n) _ own) is small, tt)
 
   -- by the kind of the message
   module _ (s : Processor ℕ) (m : Message ℕ) (from : m.sender ≡ home_node m.place) (small : m.place < 16) where
-    inv_well : (l : Line) → line_at s.lines m.place ≡ l → ToldWell f (invalidated s n m.sender m.place)
+    inv_well : (l : Line) → line_at s.lines m.place ≡ l → ToldWell f (invalidated s n m)
     inv_well Invalid is = rw (is, invalidated) tt
-    inv_well (Shared ws) is = rw (is, invalidated) (gives_way_well s m.sender m.place Invalid false no_words from small refl)
-    inv_well (Exclusive ws) is = rw (is, invalidated) (gives_way_well s m.sender m.place Invalid true ws from small refl)
+    inv_well (Shared ws) is = rw (is, invalidated) (gives_way_well s m Invalid None from small)
+    inv_well (Exclusive ws) is = rw (is, invalidated) (gives_way_well s m Invalid (Some ws) from small)
 
-    down_well : (l : Line) → line_at s.lines m.place ≡ l → ToldWell f (downgraded s n m.sender m.place)
+    down_well : (l : Line) → line_at s.lines m.place ≡ l → ToldWell f (downgraded s n m)
     down_well Invalid is = rw (is, downgraded) tt
     down_well (Shared ws) is = rw (is, downgraded) tt
-    down_well (Exclusive ws) is = rw (is, downgraded) (gives_way_well s m.sender m.place (Shared ws) true ws from small refl)
+    down_well (Exclusive ws) is = rw (is, downgraded) (gives_way_well s m (Shared ws) (Some ws) from small)
 
-    line_well : (l : Line) → SendsWell f (taking_line s n m.sender m.place m.clock l)
-    line_well l = takes_well (at_line m.place l s) m.sender m.place m.clock from small
+    line_well : (l : Line) → SendsWell f (taking_line s n m l)
+    line_well l = takes_well (at_line m.place l s) m from small
 
-    grant_well : (l : Line) → line_at s.lines m.place ≡ l → ToldWell f (granted s n m.sender m.place m.clock)
+    grant_well : (l : Line) → line_at s.lines m.place ≡ l → ToldWell f (granted s n m)
     grant_well l is = grind (arith, nat_tests)
 
-  nack_well : (s : Processor ℕ) (b : ℕ) (k : Option Kind) → ToldWell f (nacked s b k)
-  nack_well s b None = tt
-  nack_well s b (Some j) = cond_both (is_out s.requests b j) _ None (ToldWell f) (λ _ _. tt) (λ _. tt)
+  nack_well : (s : Processor ℕ) (m : Message ℕ) (k : Option Kind) → m.refused ≡ k → ToldWell f (nacked s m)
+  nack_well s m None is = rw (is, nacked) tt
+  nack_well s m (Some j) is = rw (is, nacked) (cond_both (is_out s.requests m.place j) _ None (ToldWell f) (λ _ _. tt) (λ _. tt))
 
   fetch_well : (s : Processor ℕ) (d v c : ℕ) (x : Slot) → slot_at s.slots d ≡ x → ToldWell f (fetched s d v c)
   fetch_well s d v c slot.Free is = rw (is, fetched) tt
@@ -82,9 +83,9 @@ module _ (f : Figures) (n : ℕ) (own : has_processor f n ≡ true) where
   fetch_well s d v c slot.Abandoned is = rw (is, fetched) (λ _. tt)
   fetch_well s d v c (slot.Came u) is = rw (is, fetched) tt
 
-  value_well : (s : Processor ℕ) (from v c : ℕ) (x : Option Node) → node_numbered from ≡ x → ToldWell f (fetched_from s from v c)
-  value_well s from v c (Some (node.Device d)) is = rw (is, fetched_from) (fetch_well s d v c (slot_at s.slots d) refl)
-  value_well s from v c _ is = rw (is, fetched_from) tt
+  value_well : (s : Processor ℕ) (m : Message ℕ) (x : Option Node) → node_numbered m.sender ≡ x → ToldWell f (fetched_from s m)
+  value_well s m (Some (node.Device d)) is = rw (is, fetched_from) (fetch_well s d (first_word m.words) m.clock (slot_at s.slots d) refl)
+  value_well s m _ is = rw (is, fetched_from) tt
 
   module _ (s : Processor ℕ) (m : Message ℕ) (well : Well f m) where
     by_kind : (k : Kind) → m.kind ≡ k → ToldWell f (receive_kind k s n m)
@@ -100,9 +101,9 @@ module _ (f : Figures) (n : ℕ) (own : has_processor f n ≡ true) where
     by_kind kind.Grant is = let h = from_home f m well kind.Grant is refl in grant_well s m h.0 h.1 (line_at s.lines m.place) refl
     by_kind kind.Done is =
         let h = from_home f m well kind.Done is refl in
-        cond_both (is_out s.requests m.place kind.Wb) _ None (ToldWell f) (λ _. takes_well s m.sender m.place m.clock h.0 h.1) (λ _. tt)
-    by_kind kind.Value is = value_well s m.sender (first_word m.words) m.clock (node_numbered m.sender) refl
-    by_kind kind.Nack is = nack_well s m.place m.refused
+        cond_both (is_out s.requests m.place kind.Wb) _ None (ToldWell f) (λ _. takes_well s m h.0 h.1) (λ _. tt)
+    by_kind kind.Value is = value_well s m (node_numbered m.sender) refl
+    by_kind kind.Nack is = nack_well s m m.refused refl
     by_kind _ is = tt
 
   -- the calls

@@ -1,6 +1,7 @@
 -- What a home keeps, whatever it is told. h is the home of block b, m the message that reaches it.
 use Rattle.std.specs.Prelude.{◌≡◌, ◌≢◌, ℕ, ◌+◌, ◌<◌, ◌≤◌, Bool, true, false, ◌&&◌, ◌||◌, is_some, IfSome, Some, None}
 use Rattle.message.specs.Kinds.{same_kind, is_request}
+use Rattle.message.specs.Messages.{plain}
 use Rattle.message.specs.Nodes.{home_node, is_device}
 use Rattle.message.specs.Reactions.{single, sent}
 use Rattle.message.specs.declared.kind.Kind.{Kind}
@@ -14,7 +15,7 @@ use Rattle.home.specs.Plans.{plan}
 use Rattle.home.specs.Reactions.{finished, heard_home, received}
 use Rattle.home.specs.Requests.{asks_down, operation_for}
 use Rattle.home.specs.Sets.{has}
-use Rattle.home.specs.declared.directory.Phase.TheVariants.{Free, Gathering, Replied}
+use Rattle.home.specs.declared.directory.Phase.TheVariants.{Free, Replied}
 use Rattle.home.specs.declared.directory.View.{View}
 use Rattle.home.specs.declared.directory.View.TheVariants.{Shared, Exclusive}
 use Rattle.home.specs.declared.machine.Home.{Home}
@@ -22,21 +23,12 @@ use Rattle.home.specs.declared.plan.Plan.TheVariants.{Ask}
 use Rattle.home.specs.Sets.{Processors}
 
 abbrev pub is_free : Home ℕ → Bool
-is_free h = elim h.directory.phase [ Free ↦ true | Gathering g ↦ false | Replied r ↦ false ]
+is_free h = elim h.directory.phase [ Free ↦ true | _ ↦ false ]
 
 -- NACK gives a request back with its words, its clock and its number.
 abbrev pub given_back : ℕ → Message ℕ → Message ℕ
-given_back b m = record {
-  kind = Nack;
-  sender = home_node b;
-  receiver = m.sender;
-  place = b;
-  words = m.words;
-  clock = m.clock;
-  sequence = m.sequence;
-  exclusive = false;
-  refused = Some m.kind;
-}
+given_back b m =
+    record (plain Nack (home_node b) m.sender b) { words = m.words; clock = m.clock; sequence = m.sequence; refused = Some m.kind }
 
 -- A home that is not free gives back every request, and changes nothing.
 abbrev pub RefusesWhileBusy : Type 0
@@ -111,7 +103,7 @@ HearsAll = (h : Home ℕ) (m : Message ℕ) → Kept h m (heard_home h m)
 
 -- So whenever a home replies, the reply is above its own clock, above this message's and above those heard before it.
 abbrev pub has_replied : Home ℕ → Bool
-has_replied h = elim h.directory.phase [ Free ↦ false | Gathering g ↦ false | Replied r ↦ true ]
+has_replied h = elim h.directory.phase [ Replied r ↦ true | _ ↦ false ]
 
 pub record RepliedAbove (h : Home ℕ) (m : Message ℕ) (x : Reaction (Home ℕ)) : Type 0 where
   pub own : h.clock.global < x.next.clock.global
@@ -153,7 +145,7 @@ pub record ServesAsAsked (h : Home ℕ) (b : ℕ) : Type 0 where
   pub written : same_kind (round_of h.directory).request.kind Wblk ≡ true → (finished h b).next.words ≡ (round_of h.directory).request.words
   pub writes : same_kind (round_of h.directory).request.kind Wblk ≡ true → IfSome (finished h b).entry (λ e. e.values ≡ (round_of h.directory).request.words)
   pub reads : same_kind (round_of h.directory).request.kind Rblk ≡ true → IfSome (finished h b).entry (λ e. e.values ≡ h.words)
-  pub told : same_kind (round_of h.directory).request.kind Rblk ≡ true → AllByRecursion (λ n. n.words ≡ h.words) (sent (finished h b).sent)
+  pub carried : same_kind (round_of h.directory).request.kind Rblk ≡ true → AllByRecursion (λ n. n.words ≡ h.words) (sent (finished h b).sent)
   pub issuer : IfSome (finished h b).entry (λ e. (e.party ≡ (round_of h.directory).request.requester) × (e.sequence ≡ (round_of h.directory).request.sequence))
 
 abbrev pub HomesServeAsAsked : Type 0

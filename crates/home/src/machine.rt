@@ -9,7 +9,7 @@ use ordering::clock::{Clock, Settle};
 use ordering::operation::Words;
 
 /// `N` is the width of the clock's numbers, as for `Clock`.
-#[derive(Clone, Copy)]
+#[derive(Clone, Copy, Debug, PartialEq, Eq)]
 pub struct Home<N = u32> {
     pub clock: Clock<N>,
     pub words: Words,

@@ -58,7 +58,7 @@ WellFormedAreSound = (f : Figures) (m : Message ℕ) → well_formed f m ≡ tru
 -- What goes to a device's word, or comes from it, has a device that has it; an interrupt goes to the processor at its place.
 pub record EndsAreThere (f : Figures) (m : Message ℕ) : Type 0 where
   pub asked : (same_kind m.kind Rio || same_kind m.kind Wio) ≡ true → m.place < word_count f m.receiver
-  pub told : same_kind m.kind Value ≡ true → m.place < word_count f m.sender
+  pub value : same_kind m.kind Value ≡ true → m.place < word_count f m.sender
   pub interrupted : same_kind m.kind Int ≡ true → (m.receiver ≡ m.place) × (has_processor f m.receiver ≡ true)
 
 abbrev pub WellFormedHaveEnds : Type 0

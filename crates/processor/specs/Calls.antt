@@ -1,5 +1,5 @@
 -- What a processor does at each call: its reaction, or why it refuses.
-use Rattle.std.specs.Prelude.{ℕ, Bool, true, false, cond, ◌&&◌, Some, None, Ok, Err, Result, nat_lt}
+use Rattle.std.specs.Prelude.{ℕ, Bool, true, false, if◌then◌else◌, ◌&&◌, Some, None, Ok, Err, Result, nat_lt}
 use Rattle.ordering.specs.Clocks.{counted}
 use Rattle.ordering.specs.Stamps.{stamped}
 use Rattle.ordering.specs.Words.{one_word, no_words}
@@ -7,7 +7,6 @@ use Rattle.ordering.specs.declared.operation.Operation.{Operation}
 use Rattle.ordering.specs.declared.operation.Operation.TheVariants.{Ld, St}
 use Rattle.ordering.specs.declared.operation.Words.{Words}
 use Rattle.trail.specs.declared.entry.Entry.{Entry}
-use Rattle.message.specs.Kinds.{same_kind}
 use Rattle.message.specs.Messages.{plain}
 use Rattle.message.specs.Nodes.{home_node, device_node}
 use Rattle.message.specs.Requests.{out}
@@ -72,65 +71,53 @@ store s n w v =
 
 -- GETS and GETX are asked for at a line I, UPG at S, WB at X.
 abbrev pub fits : Line → Kind → Bool
-fits Invalid k = cond (same_kind k Gets) true (same_kind k Getx)
-fits (Shared ws) k = same_kind k Upg
-fits (Exclusive ws) k = same_kind k Wb
+fits Invalid Gets = true
+fits Invalid Getx = true
+fits (Shared ws) Upg = true
+fits (Exclusive ws) Wb = true
+fits _ _ = false
 
 abbrev pub request : Processor ℕ → ℕ → ℕ → Kind → Answer
 request s n b k =
-    cond (nat_lt b 16 && fits (line_at s.lines b) k)
-    (elim (out s.requests b) [
+    if (nat_lt b 16 && fits (line_at s.lines b) k)
+    then elim (out s.requests b) [
       | Some j ↦ Err (RequestOut b)
       | None ↦ Ok (sending (plain k n (home_node b) b) (at_request b (Some k) s))
-    ])
-    (Err (Unfit b))
+    ]
+    else Err (Unfit b)
 
 -- A message to a device about one of its words, with the processor's clock and the operation's number.
 abbrev pub to_device : Kind → Processor ℕ → ℕ → ℕ → ℕ → Words → Message ℕ
-to_device k s n d w ws = record {
-  kind = k;
-  sender = n;
-  receiver = device_node d;
-  place = w;
-  words = ws;
-  clock = s.clock.global;
-  sequence = s.sequence;
-  exclusive = false;
-  refused = None;
-}
+to_device k s n d w ws =
+    record (plain k n (device_node d) w) { words = ws; clock = s.clock.global; sequence = s.sequence }
 
 -- LDio sends Rio and takes the device's slot. (A device that is not there has no slot to take.)
 abbrev pub ldio : Processor ℕ → ℕ → ℕ → ℕ → Answer
 ldio s n d w =
-    cond (nat_lt d 2 && is_free (slot_at s.slots d))
-    (Ok (sending (to_device Rio s n d w no_words) (at_slot d Awaited (numbered s))))
-    (Err (SlotTaken d))
+    if (nat_lt d 2 && is_free (slot_at s.slots d))
+    then Ok (sending (to_device Rio s n d w no_words) (at_slot d Awaited (numbered s)))
+    else Err (SlotTaken d)
 
 -- STio sends Wio; it needs no slot.
 abbrev pub stio : Processor ℕ → ℕ → ℕ → ℕ → ℕ → Answer
 stio s n d w v =
-    cond (nat_lt d 2)
-    (Ok (sending (to_device Wio s n d w (one_word v)) (numbered s)))
-    (Err (SlotTaken d))
+    if nat_lt d 2 then Ok (sending (to_device Wio s n d w (one_word v)) (numbered s)) else Err (SlotTaken d)
 
 -- Collect tells a word that came and frees the slot.
 abbrev pub collect : Processor ℕ → ℕ → Answer
 collect s d =
     elim (slot_at s.slots d) [
-      | Free ↦ Err (NotCollectable d)
-      | Awaited ↦ Err (NotCollectable d)
-      | Abandoned ↦ Err (NotCollectable d)
       | Came v ↦ Ok (telling (Some v) (at_slot d Free s))
+      | _ ↦ Err (NotCollectable d)
     ]
 
 -- Give up frees a slot whose word came; one whose word is awaited stays taken, and nobody holds it.
 abbrev pub give_up : Processor ℕ → ℕ → Answer
 give_up s d =
     elim (slot_at s.slots d) [
-      | Free ↦ Err (NotCollectable d)
       | Awaited ↦ Ok (quiet (at_slot d Abandoned s))
-      | Abandoned ↦ Err (NotCollectable d)
       | Came v ↦ Ok (quiet (at_slot d Free s))
+      | _ ↦ Err (NotCollectable d)
     ]
 
 -- Poll tells the latest interrupt word that was not polled, or none.

@@ -2,7 +2,8 @@
 //! hold: that is where it stands on the board.
 
 ghost use Rattle.std.specs.Prelude.{◌≡◌, ◌<◌, true, is_some, IfOk, None};
-ghost use Rattle.processor.specs.Calls.{operation_entry, fetched_all, load, store, fits, request, to_device, ldio, stio, collect, give_up, poll};
+ghost use Rattle.processor.specs.Calls.{operation_entry, operated, fetched_all, load, store, request, to_device, ldio};
+ghost use Rattle.processor.specs.Calls.{stio, collect, give_up, poll};
 
 use crate::line::{Line, with_word, word_of};
 use crate::refusal::Refusal;
@@ -15,20 +16,6 @@ use message::reaction::Reaction;
 use ordering::operation::{Operation, Words};
 use ordering::stamp::Stamp;
 use trail::entry::Entry;
-
-impl Line {
-    /// Whether the line is one at which a processor may ask for this.
-    fn fits(self, kind: Kind) -> bool
-        ensures { result ≡ fits self kind }
-    {
-        matches!(
-            (self, kind),
-            (Line::Invalid, Kind::Gets | Kind::Getx)
-                | (Line::Shared(_), Kind::Upg)
-                | (Line::Exclusive(_), Kind::Wb)
-        )
-    }
-}
 
 impl Processor {
     // The entry of an operation on a line, stamped with the clock that counts it.
@@ -59,6 +46,17 @@ impl Processor {
         }
     }
 
+    // An operation on a line is done at once: it is counted, and takes the next number.
+    fn operated(self) -> Processor<u64>
+        ensures { result ≡ operated self }
+    {
+        Processor {
+            clock: self.clock.counted(),
+            sequence: u64::from(self.sequence) + 1,
+            ..self.into()
+        }
+    }
+
     // The word of every own LDio has come.
     fn fetched_all(self) -> Result<(), Refusal>
         ensures { result ≡ fetched_all self }
@@ -69,24 +67,19 @@ impl Processor {
         }
     }
 
-    // What is told stands in the reaction, for each kind of node; `told` and `quiet` say it of each call.
+    // The answer stands in the reaction, for each kind of node; `answer` and `quiet` say it of each call.
     /// An LD: tells the word.
     pub fn load(self, node: u32, word: u32) -> Result<Reaction<Processor<u64>>, Refusal>
         ensures value { result ≡ load self node word }
-        ensures told { IfOk result (λ x. is_some x.answer ≡ true) }
+        ensures answer { IfOk result (λ x. is_some x.answer ≡ true) }
     {
         let block = word / 4;
         let held = self.lines.get(block).held();
         let words = held.ok_or(Refusal::NotHeld(block))?;
         self.fetched_all()?;
         let value = word_of(words, word);
-        let next = Processor {
-            clock: self.clock.counted(),
-            sequence: u64::from(self.sequence) + 1,
-            ..self.into()
-        };
         let entry = self.operation(node, Operation::Ld, word, value);
-        Ok(Reaction::doing(next, entry, Some(value)))
+        Ok(Reaction::doing(self.operated(), entry, Some(value)))
     }
 
     /// An ST.
@@ -105,10 +98,8 @@ impl Processor {
         self.fetched_all()?;
         let line = Line::Exclusive(with_word(words, word, value));
         let next = Processor {
-            clock: self.clock.counted(),
-            sequence: u64::from(self.sequence) + 1,
             lines: self.lines.with(block, line),
-            ..self.into()
+            ..self.operated()
         };
         let entry = self.operation(node, Operation::St, word, value);
         Ok(Reaction::doing(next, entry, None))
@@ -186,7 +177,7 @@ impl Processor {
     /// Tells a word that came, and frees its slot.
     pub fn collect(self, device: u32) -> Result<Reaction<Processor<u64>>, Refusal>
         ensures value { result ≡ collect self device }
-        ensures told { IfOk result (λ x. is_some x.answer ≡ true) }
+        ensures answer { IfOk result (λ x. is_some x.answer ≡ true) }
     {
         let Slot::Came(word) = self.slots.get(device) else {
             return Err(Refusal::NotCollectable(device));

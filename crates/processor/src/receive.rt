@@ -1,9 +1,10 @@
 //! What a processor does when a message reaches it, or none where there is no rule. The fields that a
 //! kind leaves empty, and who may send it, are not looked at here. `node` is the processor's own number.
 
-ghost use Rattle.std.specs.Prelude.{◌≡◌, is_some, unwrap_or, IfSome, None};
-ghost use Rattle.ordering.specs.Words.{no_words, first_word};
-ghost use Rattle.processor.specs.Receive.{giving_way, invalidated, downgraded, taking_line, taking, filled, granted, done, nacked, interrupt_entry, interrupted, fetched, fetched_from, receive};
+ghost use Rattle.std.specs.Prelude.{◌≡◌, IfSome, None};
+ghost use Rattle.ordering.specs.Words.{first_word};
+ghost use Rattle.processor.specs.Receive.{giving_way, invalidated, downgraded, taking_line, taking, filled, granted};
+ghost use Rattle.processor.specs.Receive.{done, nacked, interrupted, fetched, fetched_from, receive};
 
 use crate::line::Line;
 use crate::slot::Slot;
@@ -32,7 +33,7 @@ impl Processor {
         line: Line,
         owned: Option<Words>,
     ) -> Reaction<Processor<u64>>
-        ensures { result ≡ giving_way self node message.sender message.place line (is_some owned) (unwrap_or owned no_words) }
+        ensures { result ≡ giving_way self node message line owned }
     {
         let clock = self.clock.passed(self.clock.global);
         let next = Processor {
@@ -51,7 +52,7 @@ impl Processor {
 
     // INV.
     fn invalidated(self, node: u32, message: Message<u32>) -> Option<Reaction<Processor<u64>>>
-        ensures { result ≡ invalidated self node message.sender message.place }
+        ensures { result ≡ invalidated self node message }
     {
         let line = self.lines.get(message.place);
         if line == Line::Invalid {
@@ -62,7 +63,7 @@ impl Processor {
 
     // DOWN.
     fn downgraded(self, node: u32, message: Message<u32>) -> Option<Reaction<Processor<u64>>>
-        ensures { result ≡ downgraded self node message.sender message.place }
+        ensures { result ≡ downgraded self node message }
     {
         let words = self.lines.get(message.place).owned()?;
         Some(self.giving_way(node, message, Line::Shared(words), Some(words)))
@@ -70,7 +71,7 @@ impl Processor {
 
     // The request is answered.
     fn taking(self, node: u32, message: Message<u32>) -> Reaction<Processor<u64>>
-        ensures { result ≡ taking self node message.sender message.place message.clock }
+        ensures { result ≡ taking self node message }
     {
         let next = Processor {
             clock: self.clock.passed(message.clock),
@@ -82,7 +83,7 @@ impl Processor {
     }
 
     fn taking_line(self, node: u32, message: Message<u32>, line: Line) -> Reaction<Processor<u64>>
-        ensures { result ≡ taking_line self node message.sender message.place message.clock line }
+        ensures { result ≡ taking_line self node message line }
     {
         let next = Processor {
             lines: self.lines.with(message.place, line),
@@ -99,7 +100,7 @@ impl Processor {
         request: Kind,
         line: Line,
     ) -> Option<Reaction<Processor<u64>>>
-        ensures { result ≡ filled self node message.sender message.place message.clock request line }
+        ensures { result ≡ filled self node message request line }
     {
         if !self.requests.is_out(message.place, request) {
             return None;
@@ -109,7 +110,7 @@ impl Processor {
 
     // GRANT.
     fn granted(self, node: u32, message: Message<u32>) -> Option<Reaction<Processor<u64>>>
-        ensures { result ≡ granted self node message.sender message.place message.clock }
+        ensures { result ≡ granted self node message }
     {
         let Line::Shared(words) = self.lines.get(message.place) else {
             return None;
@@ -119,7 +120,7 @@ impl Processor {
 
     // DONE.
     fn done(self, node: u32, message: Message<u32>) -> Option<Reaction<Processor<u64>>>
-        ensures { result ≡ done self node message.sender message.place message.clock }
+        ensures { result ≡ done self node message }
     {
         if !self.requests.is_out(message.place, Kind::Wb) {
             return None;
@@ -129,7 +130,7 @@ impl Processor {
 
     // NACK.
     fn nacked(self, message: Message<u32>) -> Option<Reaction<Processor<u64>>>
-        ensures { result ≡ nacked self message.place message.refused }
+        ensures { result ≡ nacked self message }
     {
         if !self.requests.is_out(message.place, message.refused?) {
             return None;
@@ -143,7 +144,7 @@ impl Processor {
 
     // INT, an operation of the party that sent it.
     fn interrupted(self, node: u32, message: Message<u32>) -> Reaction<Processor<u64>>
-        ensures { result ≡ interrupted self node message.sender message.sequence (first_word message.words) message.clock }
+        ensures { result ≡ interrupted self node message }
     {
         let clock = self.clock.passed_and_counted(message.clock);
         let word = first_word(message.words);
@@ -182,7 +183,7 @@ impl Processor {
     }
 
     fn fetched_from(self, message: Message<u32>) -> Option<Reaction<Processor<u64>>>
-        ensures { result ≡ fetched_from self message.sender (first_word message.words) message.clock }
+        ensures { result ≡ fetched_from self message }
     {
         let Node::Device(device) = Node::numbered(message.sender)? else {
             return None;

@@ -20,6 +20,7 @@ pub enum Refusal {
 }
 
 impl Refusal {
+    /// The number by which it is told, from 3 to 8.
     pub fn number(self) -> u32
         ensures { result ≡ refusal_number self }
     {
@@ -33,6 +34,7 @@ impl Refusal {
         }
     }
 
+    /// The block or the device that stands in the way.
     pub fn place(self) -> u32
         ensures { result ≡ refusal_place self }
     {
