@@ -1,10 +1,8 @@
-//! What a delivery does: the message is taken out and reaches its receiver, one node, which reacts.
+//! Deliveries: which message, and what it does at its receiver, the one node that reacts.
 
-ghost use Rattle.std.specs.Prelude.{◌≡◌, ◌<◌, true, length, is_some, IfSome, IfOk, Some, None, OnOk, nat_lt, slice_index_or};
-ghost use Rattle.bridge.specs.Reactions as bridge_messages;
+ghost use Rattle.std.specs.Prelude.{◌≡◌, ◌<◌, true, length, is_some, IfSome, IfOk, None, OnOk, nat_lt, slice_index_or};
 ghost use Rattle.coherence.specs.Steps.{delivered, by_processor, by_home};
 ghost use Rattle.coherence.specs.Worlds.{processor_at, home_at};
-ghost use Rattle.coherence.specs.declared.call.Call.TheVariants.{Deliver};
 ghost use Rattle.home.specs.Reactions.{received};
 ghost use Rattle.list.specs.Contents.{contents};
 ghost use Rattle.message.specs.Checks.{checked, well_formed};
@@ -15,13 +13,11 @@ ghost use Rattle.processor.specs.Receive.{receive};
 ghost use Rattle.std.specs.Option.{option_map};
 ghost use Rattle.raster.specs.Answers.{done_answer};
 ghost use Rattle.raster.specs.Boards.{board_figures};
-ghost use Rattle.raster.specs.Calls.{Stepped, Did, Reached};
-ghost use Rattle.raster.specs.Commits.{BridgeCommitted, by_rule};
+ghost use Rattle.raster.specs.Calls.{Reached};
 ghost use Rattle.raster.specs.Picking.{picked, There};
 
 use crate::board::Board;
-use crate::commit::commit_plan;
-use bridge::state::Bridge;
+use crate::bridges::reach_at;
 use coherence::fault::{BoardFault, Fault, NetworkFault};
 use device::meaning::Device;
 use list::List;
@@ -31,7 +27,7 @@ use message::pair::oldest_of_pair;
 use trail::entry::Entry;
 
 // The message at a place, if no older one of its pair waits.
-fn pick(messages: &List<Message>, place: usize) -> Result<Message, Fault>
+pub(crate) fn pick(messages: &List<Message>, place: usize) -> Result<Message, Fault>
     ensures value { result ≡ picked (contents messages.now) place }
     ensures inside { OnOk result (nat_lt place (length (contents messages.now)) ≡ true) }
     ensures turn { OnOk result (oldest_of_pair (contents messages.now) place ≡ None) }
@@ -51,41 +47,6 @@ fn receiver(message: Message<u32>) -> Option<Node>
     ensures there { There result }
 {
     Node::numbered(message.receiver)
-}
-
-// The message reaches one bridge.
-#[tactic(auto, unfolding(crate::specs::Commits::planned))]
-fn reach_at<D: Device>(
-    bridge: &mut Bridge<D>,
-    messages: &mut List<Message>,
-    trail: &mut List<Entry>,
-    number: u8,
-    place: usize,
-    message: Message<u32>,
-) -> Result<(), Fault>
-    ensures { BridgeCommitted D.Device number bridge.old messages.old trail.old (Some place)
-        (λ b. by_rule place (bridge_messages.receive D.Device.meaning number b message))
-        (done_answer result) bridge.new messages.new trail.new }
-{
-    let plan = bridge.receive(number, message);
-    let plan = plan.ok_or(NetworkFault::NoRule(place))?;
-    commit_plan(bridge, messages, trail, Some(place), number, plan)
-}
-
-#[tactic(auto, using(crate::proofs::Going::did))]
-impl<A: Device, B: Device> Board<A, B> {
-    /// Hands the message at a place over to its receiver.
-    pub fn deliver(
-        &mut self,
-        messages: &mut List<Message>,
-        trail: &mut List<Entry>,
-        place: u32,
-    ) -> Result<(), Fault>
-        ensures { Did A.Device B.Device self.old messages.old trail.old
-            (Deliver place) (done_answer result) self.new messages.new trail.new }
-    {
-        self.deliver_step(messages, trail, place)
-    }
 }
 
 impl<A: Device, B: Device> Board<A, B> {
@@ -141,7 +102,7 @@ impl<A: Device, B: Device> Board<A, B> {
     }
 
     // The message reaches its receiver, if it is well formed on this board.
-    fn reach(
+    pub(crate) fn reach(
         &mut self,
         messages: &mut List<Message>,
         trail: &mut List<Entry>,
@@ -162,20 +123,5 @@ impl<A: Device, B: Device> Board<A, B> {
             Node::Device(_) => reach_at(&mut self.second, messages, trail, 1, place, message),
             Node::Home(block) => self.reach_home(messages, trail, place, block, message),
         }
-    }
-
-    fn deliver_step(
-        &mut self,
-        messages: &mut List<Message>,
-        trail: &mut List<Entry>,
-        place: u32,
-    ) -> Result<(), Fault>
-        ensures { Stepped A.Device B.Device self.old messages.old trail.old
-            (Deliver place) (done_answer result) self.new messages.new trail.new }
-    {
-        self.check_fit()?;
-        let place = place as usize;
-        let message = pick(messages, place)?;
-        self.reach(messages, trail, place, message)
     }
 }

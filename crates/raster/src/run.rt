@@ -58,9 +58,9 @@ pub fn run<A: Device, B: Device>(
     answers: &mut [Result<Option<u32>, Fault>],
 ) -> Board<A, B>
     ensures { let k = board_making A.Device B.Device
-            processors clock words.now first second messages.old trail.old in
+        processors clock words.now first second messages.old trail.old in
         Ran A.Device.meaning B.Device.meaning k calls.now answers.old answers.new
-            (world A.Device.state B.Device.state result messages.new trail.new) }
+        (world A.Device.state B.Device.state result messages.new trail.new) }
 {
     let mut board = Board::make(processors, clock, words, first, second, messages, trail);
     board.call_all(messages, trail, calls, answers);

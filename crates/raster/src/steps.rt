@@ -1,17 +1,18 @@
-//! The calls of processors: the checks in the order of their numbers, the processor's reaction, one commit.
-//! The steps stand in functions of their own, since a body with many returns would owe what a call says at each.
+//! The step of each call: the checks in the order of their numbers, one node's reaction, one commit.
 
 ghost use Rattle.std.specs.Prelude.{◌≡◌, ◌<◌, true, length, Ok, OnOk, nat_lt, slice_index_or};
 ghost use Rattle.coherence.specs.Steps.{check, argument};
 ghost use Rattle.coherence.specs.Worlds.{no_processor};
-ghost use Rattle.coherence.specs.declared.call.Call.TheVariants.{Load, Store, Request, LdIo, StIo, Collect, GiveUp, Poll};
+ghost use Rattle.coherence.specs.declared.call.Call.TheVariants.{Load, Store, Request, LdIo, StIo, Collect, GiveUp, Act, Deliver, Poll};
 ghost use Rattle.coherence.specs.declared.fault.BoardFault.TheVariants.{NotFit};
 ghost use Rattle.coherence.specs.declared.fault.Fault.TheVariants as fault;
 ghost use Rattle.raster.specs.Answers.{word_answer, done_answer};
 ghost use Rattle.raster.specs.Boards.{device_words};
-ghost use Rattle.raster.specs.Calls.{Stepped, Did};
+ghost use Rattle.raster.specs.Calls.{Stepped};
 
 use crate::board::{Board, check_below};
+use crate::bridges::act_at;
+use crate::deliveries::pick;
 use coherence::fault::{BoardFault, Fault};
 use device::meaning::Device;
 use list::List;
@@ -19,126 +20,6 @@ use message::kind::Kind;
 use message::message::Message;
 use processor::state::Processor;
 use trail::entry::Entry;
-
-#[tactic(auto, using(crate::proofs::Going::did))]
-impl<A: Device, B: Device> Board<A, B> {
-    /// Does an LD on a line that is S or X, and tells the word.
-    pub fn load(
-        &mut self,
-        messages: &mut List<Message>,
-        trail: &mut List<Entry>,
-        processor: u32,
-        word: u32,
-    ) -> Result<u32, Fault>
-        ensures { Did A.Device B.Device self.old messages.old trail.old
-            (Load processor word) (word_answer result) self.new messages.new trail.new }
-    {
-        self.load_step(messages, trail, processor, word)
-    }
-
-    /// Does an ST on a line that is X.
-    pub fn store(
-        &mut self,
-        messages: &mut List<Message>,
-        trail: &mut List<Entry>,
-        processor: u32,
-        word: u32,
-        value: u32,
-    ) -> Result<(), Fault>
-        ensures { Did A.Device B.Device self.old messages.old trail.old
-            (Store processor word value) (done_answer result) self.new messages.new trail.new }
-    {
-        self.store_step(messages, trail, processor, word, value)
-    }
-
-    // By rule any number may be given for the kind.
-    /// Asks the home of a block for GETS, GETX, UPG or WB: kinds 1 to 4.
-    pub fn request(
-        &mut self,
-        messages: &mut List<Message>,
-        trail: &mut List<Entry>,
-        processor: u32,
-        block: u32,
-        kind: u32,
-    ) -> Result<(), Fault>
-        ensures { Did A.Device B.Device self.old messages.old trail.old
-            (Request processor block kind) (done_answer result) self.new messages.new trail.new }
-    {
-        self.request_step(messages, trail, processor, block, kind)
-    }
-
-    /// Asks a device for one of its words, and takes the slot for it.
-    pub fn ldio(
-        &mut self,
-        messages: &mut List<Message>,
-        trail: &mut List<Entry>,
-        processor: u32,
-        device: u32,
-        word: u32,
-    ) -> Result<(), Fault>
-        ensures { Did A.Device B.Device self.old messages.old trail.old
-            (LdIo processor device word) (done_answer result) self.new messages.new trail.new }
-    {
-        self.ldio_step(messages, trail, processor, device, word)
-    }
-
-    /// Sends a device a value for one of its words.
-    pub fn stio(
-        &mut self,
-        messages: &mut List<Message>,
-        trail: &mut List<Entry>,
-        processor: u32,
-        device: u32,
-        word: u32,
-        value: u32,
-    ) -> Result<(), Fault>
-        ensures { Did A.Device B.Device self.old messages.old trail.old
-            (StIo processor device word value) (done_answer result) self.new messages.new trail.new }
-    {
-        self.stio_step(messages, trail, processor, device, word, value)
-    }
-
-    /// Tells the word that came from a device, and frees the slot.
-    pub fn collect(
-        &mut self,
-        messages: &mut List<Message>,
-        trail: &mut List<Entry>,
-        processor: u32,
-        device: u32,
-    ) -> Result<u32, Fault>
-        ensures { Did A.Device B.Device self.old messages.old trail.old
-            (Collect processor device) (word_answer result) self.new messages.new trail.new }
-    {
-        self.collect_step(messages, trail, processor, device)
-    }
-
-    /// Lets the slot for a device go: at once if its word came, else once it comes.
-    pub fn give_up(
-        &mut self,
-        messages: &mut List<Message>,
-        trail: &mut List<Entry>,
-        processor: u32,
-        device: u32,
-    ) -> Result<(), Fault>
-        ensures { Did A.Device B.Device self.old messages.old trail.old
-            (GiveUp processor device) (done_answer result) self.new messages.new trail.new }
-    {
-        self.give_up_step(messages, trail, processor, device)
-    }
-
-    /// Tells the latest interrupt word that was not polled, or none.
-    pub fn poll(
-        &mut self,
-        messages: &mut List<Message>,
-        trail: &mut List<Entry>,
-        processor: u32,
-    ) -> Result<Option<u32>, Fault>
-        ensures { Did A.Device B.Device self.old messages.old trail.old
-            (Poll processor) result self.new messages.new trail.new }
-    {
-        self.poll_step(messages, trail, processor)
-    }
-}
 
 impl<A: Device, B: Device> Board<A, B> {
     // A processor of a board that is fit; its number is every call's first argument.
@@ -164,7 +45,7 @@ impl<A: Device, B: Device> Board<A, B> {
         check_below(word, self.word_count(device), 3)
     }
 
-    fn load_step(
+    pub(crate) fn load_step(
         &mut self,
         messages: &mut List<Message>,
         trail: &mut List<Entry>,
@@ -181,7 +62,7 @@ impl<A: Device, B: Device> Board<A, B> {
         Ok(answer.unwrap_or(0))
     }
 
-    fn store_step(
+    pub(crate) fn store_step(
         &mut self,
         messages: &mut List<Message>,
         trail: &mut List<Entry>,
@@ -199,7 +80,7 @@ impl<A: Device, B: Device> Board<A, B> {
         Ok(())
     }
 
-    fn request_step(
+    pub(crate) fn request_step(
         &mut self,
         messages: &mut List<Message>,
         trail: &mut List<Entry>,
@@ -218,7 +99,7 @@ impl<A: Device, B: Device> Board<A, B> {
         Ok(())
     }
 
-    fn ldio_step(
+    pub(crate) fn ldio_step(
         &mut self,
         messages: &mut List<Message>,
         trail: &mut List<Entry>,
@@ -236,7 +117,7 @@ impl<A: Device, B: Device> Board<A, B> {
         Ok(())
     }
 
-    fn stio_step(
+    pub(crate) fn stio_step(
         &mut self,
         messages: &mut List<Message>,
         trail: &mut List<Entry>,
@@ -255,7 +136,7 @@ impl<A: Device, B: Device> Board<A, B> {
         Ok(())
     }
 
-    fn collect_step(
+    pub(crate) fn collect_step(
         &mut self,
         messages: &mut List<Message>,
         trail: &mut List<Entry>,
@@ -272,7 +153,7 @@ impl<A: Device, B: Device> Board<A, B> {
         Ok(answer.unwrap_or(0))
     }
 
-    fn give_up_step(
+    pub(crate) fn give_up_step(
         &mut self,
         messages: &mut List<Message>,
         trail: &mut List<Entry>,
@@ -289,7 +170,41 @@ impl<A: Device, B: Device> Board<A, B> {
         Ok(())
     }
 
-    fn poll_step(
+    #[tactic(auto, using(crate::proofs::Lifting::first_wish, crate::proofs::Lifting::second_wish))]
+    pub(crate) fn act_step(
+        &mut self,
+        messages: &mut List<Message>,
+        trail: &mut List<Entry>,
+        device: u32,
+    ) -> Result<(), Fault>
+        ensures { Stepped A.Device B.Device self.old messages.old trail.old
+            (Act device) (done_answer result) self.new messages.new trail.new }
+    {
+        self.check_fit()?;
+        check_below(device, 2, 1)?;
+        if device < 1 {
+            act_at(&mut self.first, messages, trail, 0, self.tables.count)
+        } else {
+            act_at(&mut self.second, messages, trail, 1, self.tables.count)
+        }
+    }
+
+    pub(crate) fn deliver_step(
+        &mut self,
+        messages: &mut List<Message>,
+        trail: &mut List<Entry>,
+        place: u32,
+    ) -> Result<(), Fault>
+        ensures { Stepped A.Device B.Device self.old messages.old trail.old
+            (Deliver place) (done_answer result) self.new messages.new trail.new }
+    {
+        self.check_fit()?;
+        let place = place as usize;
+        let message = pick(messages, place)?;
+        self.reach(messages, trail, place, message)
+    }
+
+    pub(crate) fn poll_step(
         &mut self,
         messages: &mut List<Message>,
         trail: &mut List<Entry>,
