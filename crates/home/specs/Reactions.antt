@@ -1,5 +1,5 @@
 -- What a home does when a message reaches it. h is the home of block b, r a request, s a set of processors.
-use Rattle.std.specs.Prelude.{ℕ, max, Bool, false, if◌then◌else◌, [], ◌∷◌, is_some, Some, None, Option, nat_eq, nat_lt}
+use Rattle.std.specs.Prelude.{ℕ, max, Bool, false, if◌then◌else◌, [], ◌∷◌, is_some, Some, None, Option, option_map, nat_eq, nat_lt}
 use Rattle.message.specs.Kinds.{same_kind}
 use Rattle.message.specs.Messages.{plain}
 use Rattle.message.specs.Nodes.{home_node, is_device}
@@ -13,6 +13,7 @@ use Rattle.ordering.specs.Clocks.{passed, counted}
 use Rattle.ordering.specs.Stamps.{stamped}
 use Rattle.ordering.specs.Words.{no_words}
 use Rattle.ordering.specs.declared.clock.Clock.{Clock}
+use Rattle.ordering.specs.declared.operation.Operation.{Operation}
 use Rattle.ordering.specs.declared.operation.Words.{Words}
 use Rattle.trail.specs.declared.entry.Entry.{Entry}
 use Rattle.home.specs.Directories.{round_of, view, asking, awaits, heard_round, heard, replied, freed}
@@ -41,20 +42,20 @@ clock_after c g =
 abbrev pub words_after : Words → Request → Words
 words_after w r = if same_kind r.kind Wblk then r.words else w
 
+-- The entry of a block operation, and which operation a request is for, if any.
+abbrev pub block_entry : ℕ → Request → Words → Clock ℕ → Operation → Entry
+block_entry b r w c o = record {
+  party = r.requester;
+  sequence = r.sequence;
+  operation = o;
+  space = 0;
+  place = b;
+  values = w;
+  stamp = stamped c (home_node b);
+}
+
 abbrev pub entry_for : ℕ → Request → Words → Clock ℕ → Option Entry
-entry_for b r w c =
-    elim (operation_for r.kind) [
-      | None ↦ None
-      | Some o ↦ Some (record {
-        party = r.requester;
-        sequence = r.sequence;
-        operation = o;
-        space = 0;
-        place = b;
-        values = w;
-        stamp = stamped c (home_node b);
-      })
-    ]
+entry_for b r w c = option_map (block_entry b r w c) (operation_for r.kind)
 
 abbrev pub reply : ℕ → Request → Words → ℕ → Message ℕ
 reply b r w c = record (plain (reply_kind r.kind) (home_node b) r.requester b) {

@@ -12,7 +12,9 @@ use ordering::operation::Words;
 #[derive(Clone, Copy, Debug, PartialEq, Eq)]
 pub struct Home<N = u32> {
     pub clock: Clock<N>,
+    /// The block's words; while one holds it exclusively, that one's may be newer.
     pub words: Words,
+    /// Who holds a copy, and the request under way.
     pub directory: Directory,
 }
 

@@ -1,5 +1,5 @@
 -- What a processor does at each call: its reaction, or why it refuses.
-use Rattle.std.specs.Prelude.{ℕ, Bool, true, false, if◌then◌else◌, ◌&&◌, Some, None, Ok, Err, Result, nat_lt}
+use Rattle.std.specs.Prelude.{ℕ, Bool, true, false, if◌then◌else◌, ◌&&◌, Some, None, Option, Ok, Err, Result, nat_lt}
 use Rattle.ordering.specs.Clocks.{counted}
 use Rattle.ordering.specs.Stamps.{stamped}
 use Rattle.ordering.specs.Words.{one_word, no_words}
@@ -43,30 +43,25 @@ operation_entry s n o w v = record {
 abbrev pub operated : Processor ℕ → Processor ℕ
 operated s = numbered (at_clock (counted s.clock) s)
 
--- An operation waits for the word of every own LDio, given up or not.
-abbrev pub fetched_all : Processor ℕ → Result (Unit {0}) Refusal
-fetched_all s = elim (awaited_device s.slots) [ None ↦ Ok tt | Some d ↦ Err (Awaits d) ]
+-- An operation needs a fit line, whose words are given, and waits for the word of every own LDio, given up or not.
+abbrev pub ready : Processor ℕ → ℕ → Option Words → Result Words Refusal
+ready s b None = Err (NotHeld b)
+ready s b (Some ws) = elim (awaited_device s.slots) [ None ↦ Ok ws | Some d ↦ Err (Awaits d) ]
 
 -- LD of a word of memory, on a line S or X.
 abbrev pub load : Processor ℕ → ℕ → ℕ → Answer
 load s n w =
-    elim (held_words (line_at s.lines (block_of w))) [
-      | None ↦ Err (NotHeld (block_of w))
-      | Some ws ↦ elim (awaited_device s.slots) [
-        | Some d ↦ Err (Awaits d)
-        | None ↦ Ok (doing (operation_entry s n Ld w (word_of ws w)) (Some (word_of ws w)) (operated s))
-      ]
+    elim (ready s (block_of w) (held_words (line_at s.lines (block_of w)))) [
+      | Err e ↦ Err e
+      | Ok ws ↦ Ok (doing (operation_entry s n Ld w (word_of ws w)) (Some (word_of ws w)) (operated s))
     ]
 
 -- ST to a word of memory, on a line X.
 abbrev pub store : Processor ℕ → ℕ → ℕ → ℕ → Answer
 store s n w v =
-    elim (owned_words (line_at s.lines (block_of w))) [
-      | None ↦ Err (NotHeld (block_of w))
-      | Some ws ↦ elim (awaited_device s.slots) [
-        | Some d ↦ Err (Awaits d)
-        | None ↦ Ok (doing (operation_entry s n St w v) None (at_line (block_of w) (Exclusive (with_word ws w v)) (operated s)))
-      ]
+    elim (ready s (block_of w) (owned_words (line_at s.lines (block_of w)))) [
+      | Err e ↦ Err e
+      | Ok ws ↦ Ok (doing (operation_entry s n St w v) None (at_line (block_of w) (Exclusive (with_word ws w v)) (operated s)))
     ]
 
 -- GETS and GETX are asked for at a line I, UPG at S, WB at X.

@@ -17,6 +17,9 @@ use ordering::operation::{Operation, Words};
 use ordering::stamp::Stamp;
 use trail::entry::Entry;
 
+/// The reaction to a message, or none where there is no rule.
+pub type Outcome = Option<Reaction<Processor<u64>>>;
+
 fn first_word(words: Words) -> u32
     ensures { result ≡ first_word words }
 {
@@ -51,7 +54,7 @@ impl Processor {
     }
 
     // INV.
-    fn invalidated(self, node: u32, message: Message<u32>) -> Option<Reaction<Processor<u64>>>
+    fn invalidated(self, node: u32, message: Message<u32>) -> Outcome
         ensures { result ≡ invalidated self node message }
     {
         let line = self.lines.get(message.place);
@@ -62,7 +65,7 @@ impl Processor {
     }
 
     // DOWN.
-    fn downgraded(self, node: u32, message: Message<u32>) -> Option<Reaction<Processor<u64>>>
+    fn downgraded(self, node: u32, message: Message<u32>) -> Outcome
         ensures { result ≡ downgraded self node message }
     {
         let words = self.lines.get(message.place).owned()?;
@@ -93,13 +96,7 @@ impl Processor {
     }
 
     // S-DATA and X-DATA, and the request that each answers.
-    fn filled(
-        self,
-        node: u32,
-        message: Message<u32>,
-        request: Kind,
-        line: Line,
-    ) -> Option<Reaction<Processor<u64>>>
+    fn filled(self, node: u32, message: Message<u32>, request: Kind, line: Line) -> Outcome
         ensures { result ≡ filled self node message request line }
     {
         if !self.requests.is_out(message.place, request) {
@@ -109,7 +106,7 @@ impl Processor {
     }
 
     // GRANT.
-    fn granted(self, node: u32, message: Message<u32>) -> Option<Reaction<Processor<u64>>>
+    fn granted(self, node: u32, message: Message<u32>) -> Outcome
         ensures { result ≡ granted self node message }
     {
         let Line::Shared(words) = self.lines.get(message.place) else {
@@ -119,7 +116,7 @@ impl Processor {
     }
 
     // DONE.
-    fn done(self, node: u32, message: Message<u32>) -> Option<Reaction<Processor<u64>>>
+    fn done(self, node: u32, message: Message<u32>) -> Outcome
         ensures { result ≡ done self node message }
     {
         if !self.requests.is_out(message.place, Kind::Wb) {
@@ -129,7 +126,7 @@ impl Processor {
     }
 
     // NACK.
-    fn nacked(self, message: Message<u32>) -> Option<Reaction<Processor<u64>>>
+    fn nacked(self, message: Message<u32>) -> Outcome
         ensures { result ≡ nacked self message }
     {
         if !self.requests.is_out(message.place, message.refused?) {
@@ -166,7 +163,7 @@ impl Processor {
     }
 
     // VALUE.
-    fn fetched(self, device: u32, word: u32, clock: u32) -> Option<Reaction<Processor<u64>>>
+    fn fetched(self, device: u32, word: u32, clock: u32) -> Outcome
         ensures { result ≡ fetched self device word clock }
     {
         let slot = match self.slots.get(device) {
@@ -182,7 +179,7 @@ impl Processor {
         Some(Reaction::quiet(next))
     }
 
-    fn fetched_from(self, message: Message<u32>) -> Option<Reaction<Processor<u64>>>
+    fn fetched_from(self, message: Message<u32>) -> Outcome
         ensures { result ≡ fetched_from self message }
     {
         let Node::Device(device) = Node::numbered(message.sender)? else {
@@ -192,7 +189,7 @@ impl Processor {
     }
 
     /// The reaction to a message, or none where there is no rule.
-    pub fn receive(self, node: u32, message: Message<u32>) -> Option<Reaction<Processor<u64>>>
+    pub fn receive(self, node: u32, message: Message<u32>) -> Outcome
         ensures value { result ≡ receive self node message }
         ensures quiet { IfSome result (λ x. x.answer ≡ None) }
     {
