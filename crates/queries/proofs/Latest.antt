@@ -7,7 +7,7 @@ use Rattle.std.proofs.lemmas.Bool.Decides.{nat_tests}
 use Rattle.std.specs.List.{slice_get}
 use Rattle.queries.proofs.Choice.{falls}
 use Rattle.trail.specs.Addresses.{value_at}
-use Rattle.queries.specs.Search.{later, latest, told, LatestWrite}
+use Rattle.queries.specs.Search.{later, latest, found, LatestWrite}
 use Rattle.queries.specs.declared.source.Candidate.{Candidate}
 use Rattle.trail.specs.Sources.{writes_below, Source}
 use Rattle.trail.specs.declared.address.Address.{Address}
@@ -124,7 +124,7 @@ module _ (a : Address) (s : Stamp) where
 pub latest_write : LatestWrite
 latest_write trail a s = go (latest a s 0 trail) (chosen a s 0 trail)
   where
-    go : (r : Option Candidate) → Law a s 0 trail r → Source trail a s (told r)
+    go : (r : Option Candidate) → Law a s 0 trail r → Source trail a s (found r)
     go None law = law
     go (Some c) law =
         let at : law.place ≡ c.entry = omega (arith, law.numbered) in

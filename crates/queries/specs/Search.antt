@@ -26,15 +26,15 @@ abbrev pub latest : Address → Stamp → ℕ → List Entry → Option Candidat
 latest a s n [] = None
 latest a s n (e ∷ es) = later (candidate a s n e) (latest a s (n + 1) es)
 
-abbrev pub told : Option Candidate → Option (ℕ × ℕ)
-told None = None
-told (Some c) = Some (c.entry, c.value)
+abbrev pub found : Option Candidate → Option (ℕ × ℕ)
+found None = None
+found (Some c) = Some (c.entry, c.value)
 
 -- The source of word w of a read entry.
 abbrev pub read_source : List Entry → Entry → ℕ → Result (Option (ℕ × ℕ)) SourceFault
 read_source trail e w =
     if is_read e.operation
-    then (if has_word e w then Ok (told (latest (address_of e w) e.stamp 0 trail)) else Err NoWord)
+    then (if has_word e w then Ok (found (latest (address_of e w) e.stamp 0 trail)) else Err NoWord)
     else Err NoRead
 
 abbrev pub source_of : List Entry → ℕ → ℕ → Result (Option (ℕ × ℕ)) SourceFault
@@ -43,4 +43,4 @@ source_of trail n w =
 
 -- What is told is the source.
 abbrev pub LatestWrite : Type 0
-LatestWrite = (trail : List Entry) (a : Address) (s : Stamp) → Source trail a s (told (latest a s 0 trail))
+LatestWrite = (trail : List Entry) (a : Address) (s : Stamp) → Source trail a s (found (latest a s 0 trail))

@@ -4,6 +4,7 @@ use Rattle.bridge.specs.declared.state.Bridge.{Bridge}
 use Rattle.bridge.specs.declared.fault.DeviceFault.{DeviceFault}
 use Rattle.coherence.specs.Steps.{Answer, committed, fits, by_first, by_second, wished, ruled, settled}
 use Rattle.coherence.specs.declared.call.Call.TheVariants.{Act, Deliver}
+use Rattle.coherence.specs.declared.fault.Fault.{Fault}
 use Rattle.device.specs.Meaning.{Meaning}
 use Rattle.coherence.specs.Worlds.{World, with_first, with_second, with_lists}
 use Rattle.message.specs.Reactions.{sent}
@@ -19,6 +20,12 @@ world_lists w = record { messages = w.messages; trail = w.trail; message_room = 
 abbrev with_both : {A B : Type 0} → World A B → Lists → World A B
 with_both w l = record w { messages = l.messages; trail = l.trail; message_room = l.message_room; trail_room = l.trail_room }
 
+-- A function of what is done, or of the fault.
+through : {X Y : Type 0} (F : X → Y) (t : Result (Unit {0}) Fault) (done : X) (undone : Fault → X)
+    → F (elim t [ Ok u ↦ done | Err f ↦ undone f ]) ≡ elim t [ Ok u ↦ F done | Err f ↦ F (undone f) ]
+through F (Ok u) done undone = refl
+through F (Err f) done undone = refl
+
 module _ {A B : Type 0} (w : World A B) (taken : Option ℕ) where
   abbrev at_first : Answer × Bridge A ℕ × Lists → Answer × World A B
   at_first o = (o.0, with_both (with_first w o.1) o.2)
@@ -28,23 +35,11 @@ module _ {A B : Type 0} (w : World A B) (taken : Option ℕ) where
 
   first_lifts : (x : Reaction (Bridge A ℕ))
       → at_first (bridge_committed 0 w.first (Ok x) taken (world_lists w)) ≡ committed w (left w.messages taken) (by_first w x)
-  first_lifts x = elim (fits w (left w.messages taken) (by_first w x)) as (λ t. at_first (elim t [
-    | Ok u ↦ (Ok x.answer, x.next, posted (world_lists w) taken x.sent x.entry)
-    | Err f ↦ (Err f, w.first, world_lists w)
-  ]) ≡ elim t [
-    | Ok u ↦ (Ok x.answer, with_lists (with_first w x.next) (left w.messages taken ++ sent x.sent) (w.trail ++ option_to_list x.entry))
-    | Err f ↦ (Err f, w)
-  ]) [ Ok u ↦ refl | Err f ↦ refl ]
+  first_lifts x = through at_first (fits w (left w.messages taken) (by_first w x)) _ _
 
   second_lifts : (x : Reaction (Bridge B ℕ))
       → at_second (bridge_committed 1 w.second (Ok x) taken (world_lists w)) ≡ committed w (left w.messages taken) (by_second w x)
-  second_lifts x = elim (fits w (left w.messages taken) (by_second w x)) as (λ t. at_second (elim t [
-    | Ok u ↦ (Ok x.answer, x.next, posted (world_lists w) taken x.sent x.entry)
-    | Err f ↦ (Err f, w.second, world_lists w)
-  ]) ≡ elim t [
-    | Ok u ↦ (Ok x.answer, with_lists (with_second w x.next) (left w.messages taken ++ sent x.sent) (w.trail ++ option_to_list x.entry))
-    | Err f ↦ (Err f, w)
-  ]) [ Ok u ↦ refl | Err f ↦ refl ]
+  second_lifts x = through at_second (fits w (left w.messages taken) (by_second w x)) _ _
 
 -- So what is done at one bridge is what a step does: at its device's wish, and at a message.
 module _ {A B : Type 0} (ma : Meaning A) (mb : Meaning B) (w : World A B) where

@@ -59,48 +59,6 @@ impl<A: Device, B: Device> Board<A, B> {
         message.checked(self.figures())
     }
 
-    // Beside `reach_home`, since the two lie in different tables.
-    fn reach_processor(
-        &mut self,
-        messages: &mut List<Message>,
-        trail: &mut List<Entry>,
-        place: usize,
-        processor: u32,
-        message: Message<u32>,
-    ) -> Result<(), Fault>
-        requires { processor < 4 }
-        ensures { Reached A.Device B.Device self.old messages.old trail.old
-            place (λ w. option_map (by_processor w processor) (receive (processor_at w processor) processor message))
-            (done_answer result) self.new messages.new trail.new }
-    {
-        let state = self.tables.processors[processor as usize];
-        let reaction = state.receive(processor, message);
-        let reaction = reaction.ok_or(NetworkFault::NoRule(place))?;
-        let _ = self.commit_processor(messages, trail, Some(place), processor, reaction)?;
-        Ok(())
-    }
-
-    // A number and no `Block`, as in `Node`.
-    fn reach_home(
-        &mut self,
-        messages: &mut List<Message>,
-        trail: &mut List<Entry>,
-        place: usize,
-        block: u32,
-        message: Message<u32>,
-    ) -> Result<(), Fault>
-        requires { block < 16 }
-        ensures { Reached A.Device B.Device self.old messages.old trail.old
-            place (λ w. option_map (by_home w block) (received (home_at w block) block message))
-            (done_answer result) self.new messages.new trail.new }
-    {
-        let state = self.tables.homes[block as usize];
-        let reaction = state.receive(block, message);
-        let reaction = reaction.ok_or(NetworkFault::NoRule(place))?;
-        let _ = self.commit_home(messages, trail, Some(place), block, reaction)?;
-        Ok(())
-    }
-
     // The message reaches its receiver, if it is well formed on this board.
     pub(crate) fn reach(
         &mut self,
@@ -117,11 +75,19 @@ impl<A: Device, B: Device> Board<A, B> {
         let message = self.formed(message).ok_or(no_rule)?;
         match receiver(message).ok_or(no_rule)? {
             Node::Processor(processor) => {
-                self.reach_processor(messages, trail, place, processor, message)
+                let state = self.tables.processors[processor as usize];
+                let reaction = state.receive(processor, message).ok_or(no_rule)?;
+                let _ = self.commit_processor(messages, trail, Some(place), processor, reaction)?;
+                Ok(())
             }
             Node::Device(0) => reach_at(&mut self.first, messages, trail, 0, place, message),
             Node::Device(_) => reach_at(&mut self.second, messages, trail, 1, place, message),
-            Node::Home(block) => self.reach_home(messages, trail, place, block, message),
+            Node::Home(block) => {
+                let state = self.tables.homes[block as usize];
+                let reaction = state.receive(block, message).ok_or(no_rule)?;
+                let _ = self.commit_home(messages, trail, Some(place), block, reaction)?;
+                Ok(())
+            }
         }
     }
 }

@@ -35,12 +35,12 @@ impl Ticket {
     {
         match answer {
             Err(fault) => Err((fault, self)),
-            Ok(told) => {
+            Ok(answer) => {
                 let Ticket {
                     processor: _,
                     device: _,
                 } = self;
-                Ok(told)
+                Ok(answer)
             }
         }
     }
