@@ -32,10 +32,16 @@ world first second b ms es = record {
 module _ {A B : Type 0} (a : Ghosts A) (b : Ghosts B) where
   -- The words of a device; every number but 0 stands for the second.
   abbrev pub device_words : Board A B → ℕ → Seq ℕ
-  device_words x d = if nat_lt d 1 then a.meaning.words (a.state x.first.device) else b.meaning.words (b.state x.second.device)
+  device_words x d =
+      if nat_lt d 1
+      then a.meaning.words (a.state x.first.device)
+      else b.meaning.words (b.state x.second.device)
 
   abbrev pub board_figures : Board A B → Figures
-  board_figures x = record { processors = x.tables.count; counts = length (device_words x 0) ∷ (length (device_words x 1) ∷ []) }
+  board_figures x = record {
+    processors = x.tables.count;
+    counts = length (device_words x 0) ∷ (length (device_words x 1) ∷ []);
+  }
 
 -- What a board is made of, with the rooms of the lists that it is made with.
 abbrev pub making : {S T : Type 0} → ℕ → ℕ → Seq ℕ → S → T → List (Message ℕ) → List Entry → Making S T
@@ -49,8 +55,8 @@ making ps clock ws a b ms es = record {
   trail_room = room es;
 }
 
-abbrev pub board_making : {A B : Type 0} (a : Ghosts A) (b : Ghosts B) → ℕ → ℕ → Seq ℕ → A → B → List (Message ℕ) → List Entry
-    → Making a.State b.State
+abbrev pub board_making : {A B : Type 0} (a : Ghosts A) (b : Ghosts B)
+    → ℕ → ℕ → Seq ℕ → A → B → List (Message ℕ) → List Entry → Making a.State b.State
 board_making a b ps clock ws first second ms es = making ps clock ws (a.state first) (b.state second) ms es
 
 -- The homes of the 16 blocks at the making.
@@ -60,4 +66,5 @@ homes_from ws clock = map (λ b. new_home clock (block_words ws b)) (range_with_
 -- The figures of a board, by the number of its processors, its clock, its words and the words of each device.
 abbrev pub figures_fit : ℕ → ℕ → ℕ → ℕ → ℕ → Bool
 figures_fit ps clock n a b =
-    nat_le 1 ps && (nat_le ps 4 && (nat_le clock number_end && n == 64 && nat_le 1 a && nat_le a 64 && nat_le 1 b && nat_le b 64))
+    nat_le 1 ps && (nat_le ps 4
+    && (nat_le clock number_end && n == 64 && nat_le 1 a && nat_le a 64 && nat_le 1 b && nat_le b 64))

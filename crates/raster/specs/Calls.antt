@@ -14,6 +14,7 @@ use Rattle.raster.specs.Runs.{GoesOn}
 use Rattle.raster.specs.declared.board.Board.{Board}
 
 module _ {A B : Type 0} (a : Ghosts A) (b : Ghosts B) (x : Board A B) (ms : List (Message ℕ)) (es : List Entry) where
+  -- The world before the call.
   abbrev was : World a.State b.State
   was = world a.state b.state x ms es
 
@@ -30,9 +31,11 @@ module _ {A B : Type 0} (a : Ghosts A) (b : Ghosts B) (x : Board A B) (ms : List
   abbrev pub Reached : ℕ → (World a.State b.State → Option (Effect a.State b.State)) → Answer
       → Board A B → List (Message ℕ) → List Entry → Type 0
   Reached i e r x₁ ms₁ es₁ =
-      (r, world a.state b.state x₁ ms₁ es₁) ≡ settled a.meaning b.meaning (Deliver i) was (ruled a.meaning b.meaning was i (e was))
+      (r, world a.state b.state x₁ ms₁ es₁)
+      ≡ settled a.meaning b.meaning (Deliver i) was (ruled a.meaning b.meaning was i (e was))
 
   -- Of a step: this effect is committed, once the message at `taken`, if any, is out.
   abbrev pub Committed : Option ℕ → (World a.State b.State → Effect a.State b.State) → Answer
       → Board A B → List (Message ℕ) → List Entry → Type 0
-  Committed taken e r x₁ ms₁ es₁ = (r, world a.state b.state x₁ ms₁ es₁) ≡ committed was (left was.messages taken) (e was)
+  Committed taken e r x₁ ms₁ es₁ =
+      (r, world a.state b.state x₁ ms₁ es₁) ≡ committed was (left was.messages taken) (e was)

@@ -29,9 +29,11 @@ at_rest n (Some s) = Ok s
 
 -- At a node with a state of its own; `taken` is the place of the message that it reacts to, if it reacts to one.
 abbrev pub reaction_fits : {W S : Type 0} → (W → Option S) → ℕ → Reaction W → Option ℕ → Lists → Result S Fault
-reaction_fits settled n r taken l = room_for l taken (sent_count r.sent) (length (option_to_list r.entry)) (at_rest n (settled r.next))
+reaction_fits settled n r taken l =
+    room_for l taken (sent_count r.sent) (length (option_to_list r.entry)) (at_rest n (settled r.next))
 
-abbrev pub reaction_committed : {W S : Type 0} → (W → Option S) → ℕ → Reaction W → Option ℕ → Lists → Result S Fault × Lists
+abbrev pub reaction_committed : {W S : Type 0} → (W → Option S) → ℕ → Reaction W → Option ℕ → Lists
+    → Result S Fault × Lists
 reaction_committed settled n r taken l = elim (reaction_fits settled n r taken l) [
   | Ok s ↦ (Ok s, posted l taken r.sent r.entry)
   | Err f ↦ (Err f, l)
@@ -44,14 +46,17 @@ planned m d b p = performed m d b p
 -- The plan with its numbers at rest, where there is room for what it sends and does.
 abbrev pub fitting : ℕ → Plan ℕ → Option ℕ → Lists → Result (Plan ℕ) Fault
 fitting d p taken l =
-    room_for l taken (sends p.deed) (if enters p.deed then 1 else 0) (check (plan_within p) (Board (NumberEnds (device_node d))) (Ok p))
+    room_for l taken (sends p.deed) (if enters p.deed then 1 else 0)
+    (check (plan_within p) (Board (NumberEnds (device_node d))) (Ok p))
 
 abbrev pub bridge_fits : {S : Type 0} → ℕ → Reaction (Bridge S ℕ) → Option ℕ → Lists → Result (Unit {0}) Fault
 bridge_fits d x taken l =
-    room_for l taken (sent_count x.sent) (length (option_to_list x.entry)) (check (bridge_within x.next) (Board (NumberEnds (device_node d))) (Ok tt))
+    room_for l taken (sent_count x.sent) (length (option_to_list x.entry))
+    (check (bridge_within x.next) (Board (NumberEnds (device_node d))) (Ok tt))
 
 -- At bridge d in state b: what it decided, or the fault of that.
-abbrev pub bridge_committed : {S : Type 0} → ℕ → Bridge S ℕ → Result (Reaction (Bridge S ℕ)) Fault → Option ℕ → Lists → Answer × Bridge S ℕ × Lists
+abbrev pub bridge_committed : {S : Type 0} → ℕ → Bridge S ℕ → Result (Reaction (Bridge S ℕ)) Fault → Option ℕ → Lists
+    → Answer × Bridge S ℕ × Lists
 bridge_committed d b (Err f) taken l = (Err f, b, l)
 bridge_committed d b (Ok x) taken l = elim (bridge_fits d x taken l) [
   | Ok u ↦ (Ok x.answer, x.next, posted l taken x.sent x.entry)
@@ -68,7 +73,9 @@ by_rule i (Some x) = Ok x
 by_rule i None = Err (Network (NoRule i))
 
 -- Bridge d and both lists before, what it decides in its state, its answer, and the same after.
-abbrev pub BridgeCommitted : {D : Type 0} (t : Ghosts D) → ℕ → Bridge D ℕ → List (Message ℕ) → List Entry → Option ℕ
-    → (Bridge t.State ℕ → Result (Reaction (Bridge t.State ℕ)) Fault) → Answer → Bridge D ℕ → List (Message ℕ) → List Entry → Type 0
+abbrev pub BridgeCommitted : {D : Type 0} (t : Ghosts D) → ℕ → Bridge D ℕ → List (Message ℕ) → List Entry
+    → Option ℕ → (Bridge t.State ℕ → Result (Reaction (Bridge t.State ℕ)) Fault) → Answer
+    → Bridge D ℕ → List (Message ℕ) → List Entry → Type 0
 BridgeCommitted t d x ms es taken decided r x₁ ms₁ es₁ =
-    (r, view t.state x₁, lists ms₁ es₁) ≡ bridge_committed d (view t.state x) (decided (view t.state x)) taken (lists ms es)
+    (r, view t.state x₁, lists ms₁ es₁)
+    ≡ bridge_committed d (view t.state x) (decided (view t.state x)) taken (lists ms es)

@@ -30,4 +30,7 @@ room_for l taken s t r = roomy (filling (left l.messages taken) l.message_room) 
 
 -- The delivered message goes out; what is sent and done comes in.
 abbrev pub posted : Lists → Option ℕ → Outbox → Option Entry → Lists
-posted l taken out done = record l { messages = left l.messages taken ++ sent out; trail = l.trail ++ option_to_list done }
+posted l taken out done = record l {
+  messages = left l.messages taken ++ sent out;
+  trail = l.trail ++ option_to_list done;
+}

@@ -23,15 +23,15 @@ module _ {A B : Type 0} (ma : Meaning A) (mb : Meaning B) where
   answers_of w [] = []
   answers_of w (c ∷ cs) = (step ma mb c w).0 ∷ answers_of (step ma mb c w).1 cs
 
-  -- In whatever run the world w was reached, call c goes on with that run: o, its answer and the world after it, is what the
-  -- history gets, and the order promise is kept. Kept shut, since a call's proof needs no more than its name.
+  -- In whatever run the world w was reached, call c goes on with that run: o, its answer and the world after it, is
+  -- what the history gets, and the order promise is kept. Kept shut, since a call's proof needs no more than its name.
   unfoldable pub GoesOn : Call → World A B → Answer × World A B → Type 0
   GoesOn c w o =
       (k : Making A B) (cs : List Call) → (run ma mb k cs).world ≡ w
-      → (run ma mb k (cs ++ c ∷ []) ≡ answered ma mb c (run ma mb k cs) o.0 o.1) × OrderKept ma mb k (run ma mb k (cs ++ c ∷ []))
+      → (run ma mb k (cs ++ c ∷ []) ≡ answered ma mb c (run ma mb k cs) o.0 o.1)
+      × OrderKept ma mb k (run ma mb k (cs ++ c ∷ []))
 
-  -- From w the calls lead to v. As many answers are given as there are calls and places for them: those that were there before,
-  -- and those that are there now.
+  -- From w the calls lead to v. As many answers are given as there are calls and places for them, over those before.
   pub record Called (w : World A B) (cs : List Call) (before now : List Answer) (v : World A B) : Type 0 where
     pub world : v ≡ world_after w cs
     pub answers : now ≡ overlaid before (answers_of w cs)

@@ -1,5 +1,5 @@
-//! A board around two devices of any two kinds: its figures, the nodes that are no devices, and two bridges; and the checks
-//! that stand before every call.
+//! A board around two devices of any two kinds: its figures, the nodes that are no devices, and two bridges; and the
+//! checks that stand before every call.
 
 ghost use Rattle.std.specs.Prelude.{◌≡◌, ◌≤◌, true, Ok, nat_lt};
 ghost use Rattle.coherence.specs.Steps.{check, argument};
@@ -12,7 +12,7 @@ use home::machine::Home;
 use processor::state::Processor;
 
 /// All of a board but its devices.
-#[derive(Clone, Copy)]
+#[derive(Clone, Copy, Debug, PartialEq, Eq)]
 pub struct Tables {
     // A board outside its figures is made all the same, so a flag and no `Option`.
     /// Whether the board was made within its figures.

@@ -23,7 +23,8 @@ pub(crate) fn act_at<D: Device>(
     processors: u32,
 ) -> Result<(), Fault>
     ensures { BridgeCommitted D.Device number bridge.old messages.old trail.old None
-        (λ b. by_wish (act D.Device.meaning number processors b)) (done_answer result) bridge.new messages.new trail.new }
+        (λ b. by_wish (act D.Device.meaning number processors b))
+        (done_answer result) bridge.new messages.new trail.new }
 {
     let plan = bridge.act(number, processors)?;
     commit_plan(bridge, messages, trail, None, number, plan)

@@ -1,9 +1,10 @@
-//! The calls of a board, by name or any of them as one, and where a word of a read came from. Each call is a step, and goes
-//! on with whatever run its board was reached in, which keeps the order promise. The steps stand in functions of their own,
-//! since a body with many returns would owe the promise at each.
+//! The calls of a board, by name or any of them as one, and where a word of a read came from. Each call is a step, and
+//! goes on with whatever run its board was reached in, which keeps the order promise. The steps stand in functions of
+//! their own, since a body with many returns would owe the promise at each.
 
 ghost use Rattle.std.specs.Prelude.{◌≡◌};
-ghost use Rattle.coherence.specs.declared.call.Call.TheVariants.{Load, Store, Request, LdIo, StIo, Collect, GiveUp, Act, Deliver, Poll};
+ghost use Rattle.coherence.specs.declared.call.Call.TheVariants.{Load, Store, Request, LdIo, StIo};
+ghost use Rattle.coherence.specs.declared.call.Call.TheVariants.{Collect, GiveUp, Act, Deliver, Poll};
 ghost use Rattle.list.specs.Contents.{contents};
 ghost use Rattle.raster.specs.Answers.{word_answer, done_answer, source_answer};
 ghost use Rattle.raster.specs.Calls.{Did};

@@ -73,7 +73,8 @@ fn commit_reaction<W: Settle>(
 // Of what a plan leads to, a commit needs no more than this.
 #[tactic(auto, unfolding(crate::specs::Commits::planned))]
 fn perform<D: Device>(bridge: &mut Bridge<D>, number: u8, plan: Plan) -> Outcome
-    ensures exit { view D.Device.state bridge.new ≡ (planned D.Device.meaning number (view D.Device.state bridge.old) plan).next }
+    ensures exit { view D.Device.state bridge.new
+        ≡ (planned D.Device.meaning number (view D.Device.state bridge.old) plan).next }
     ensures outcome { result ≡ outcome_of (planned D.Device.meaning number (view D.Device.state bridge.old) plan) }
 {
     bridge.perform(number, plan)

@@ -3,7 +3,8 @@
 ghost use Rattle.std.specs.Prelude.{◌≡◌, ◌<◌, true, length, Ok, OnOk, nat_lt, slice_index_or};
 ghost use Rattle.coherence.specs.Steps.{check, argument};
 ghost use Rattle.coherence.specs.Worlds.{no_processor};
-ghost use Rattle.coherence.specs.declared.call.Call.TheVariants.{Load, Store, Request, LdIo, StIo, Collect, GiveUp, Act, Deliver, Poll};
+ghost use Rattle.coherence.specs.declared.call.Call.TheVariants.{Load, Store, Request, LdIo, StIo};
+ghost use Rattle.coherence.specs.declared.call.Call.TheVariants.{Collect, GiveUp, Act, Deliver, Poll};
 ghost use Rattle.coherence.specs.declared.fault.BoardFault.TheVariants.{NotFit};
 ghost use Rattle.coherence.specs.declared.fault.Fault.TheVariants as fault;
 ghost use Rattle.raster.specs.Answers.{word_answer, done_answer};

@@ -1,8 +1,9 @@
-//! A board whose slots go by ticket: LDio gives a ticket, collect and give up spend it, and a refusal hands it back. All
-//! other calls are those by number.
+//! A board whose slots go by ticket: LDio gives a ticket, collect and give up spend it, and a refusal hands it back.
+//! All other calls are those by number.
 
 ghost use Rattle.std.specs.Prelude.{◌≡◌, IfOk, IfErr};
-ghost use Rattle.coherence.specs.declared.call.Call.TheVariants.{Load, Store, Request, LdIo, StIo, Collect, GiveUp, Act, Deliver, Poll};
+ghost use Rattle.coherence.specs.declared.call.Call.TheVariants.{Load, Store, Request, LdIo, StIo};
+ghost use Rattle.coherence.specs.declared.call.Call.TheVariants.{Collect, GiveUp, Act, Deliver, Poll};
 ghost use Rattle.list.specs.Contents.{contents};
 ghost use Rattle.raster.specs.Answers.{word_answer, done_answer, ticket_answer, refusal, source_answer};
 ghost use Rattle.raster.specs.Calls.{Did};
@@ -14,8 +15,9 @@ use list::List;
 use message::message::Message;
 use trail::entry::Entry;
 
-/// A ticket for an accepted LDio, held for the word that a device was asked for. It cannot be let go: only collecting or
-/// giving up spends it.
+/// A ticket for an accepted LDio, held for the word that a device was asked for. It cannot be let go: only collecting
+/// or giving up spends it.
+#[derive(Debug, PartialEq, Eq)]
 pub struct Ticket {
     pub(crate) processor: u32,
     pub(crate) device: u32,
@@ -48,6 +50,7 @@ impl Ticket {
 
 // Call by call, and not by `Deref`: a board that is lent out gives LDio without a ticket.
 impl<A: Device, B: Device> Ticketed<A, B> {
+    /// A board that gives its slots out by ticket; tickets for what was asked before by number there are none.
     pub fn new(board: Board<A, B>) -> Ticketed<A, B>
         ensures { result.board ≡ board }
     {
@@ -79,7 +82,8 @@ impl<A: Device, B: Device> Ticketed<A, B> {
         ticket: Ticket,
     ) -> Result<u32, (Fault, Ticket)>
         ensures call { Did A.Device B.Device self.old.board messages.old trail.old
-            (Collect ticket.processor ticket.device) (word_answer (refusal result)) self.new.board messages.new trail.new }
+            (Collect ticket.processor ticket.device) (word_answer (refusal result))
+            self.new.board messages.new trail.new }
         ensures ticket { IfErr result (λ e. e.1 ≡ ticket) }
     {
         let answer = self
@@ -96,7 +100,8 @@ impl<A: Device, B: Device> Ticketed<A, B> {
         ticket: Ticket,
     ) -> Result<(), (Fault, Ticket)>
         ensures call { Did A.Device B.Device self.old.board messages.old trail.old
-            (GiveUp ticket.processor ticket.device) (done_answer (refusal result)) self.new.board messages.new trail.new }
+            (GiveUp ticket.processor ticket.device) (done_answer (refusal result))
+            self.new.board messages.new trail.new }
         ensures ticket { IfErr result (λ e. e.1 ≡ ticket) }
     {
         let answer = self
@@ -105,6 +110,7 @@ impl<A: Device, B: Device> Ticketed<A, B> {
         ticket.spent_by(answer)
     }
 
+    /// As `Board::load`.
     pub fn load(
         &mut self,
         messages: &mut List<Message>,
@@ -118,6 +124,7 @@ impl<A: Device, B: Device> Ticketed<A, B> {
         self.board.load(messages, trail, processor, word)
     }
 
+    /// As `Board::store`.
     pub fn store(
         &mut self,
         messages: &mut List<Message>,
@@ -132,6 +139,7 @@ impl<A: Device, B: Device> Ticketed<A, B> {
         self.board.store(messages, trail, processor, word, value)
     }
 
+    /// As `Board::request`.
     pub fn request(
         &mut self,
         messages: &mut List<Message>,
@@ -146,6 +154,7 @@ impl<A: Device, B: Device> Ticketed<A, B> {
         self.board.request(messages, trail, processor, block, kind)
     }
 
+    /// As `Board::stio`.
     pub fn stio(
         &mut self,
         messages: &mut List<Message>,
@@ -162,6 +171,7 @@ impl<A: Device, B: Device> Ticketed<A, B> {
             .stio(messages, trail, processor, device, word, value)
     }
 
+    /// As `Board::act`.
     pub fn act(
         &mut self,
         messages: &mut List<Message>,
@@ -174,6 +184,7 @@ impl<A: Device, B: Device> Ticketed<A, B> {
         self.board.act(messages, trail, device)
     }
 
+    /// As `Board::deliver`.
     pub fn deliver(
         &mut self,
         messages: &mut List<Message>,
@@ -186,6 +197,7 @@ impl<A: Device, B: Device> Ticketed<A, B> {
         self.board.deliver(messages, trail, place)
     }
 
+    /// As `Board::poll`.
     pub fn poll(
         &mut self,
         messages: &mut List<Message>,
@@ -198,6 +210,7 @@ impl<A: Device, B: Device> Ticketed<A, B> {
         self.board.poll(messages, trail, processor)
     }
 
+    /// As `Board::source`.
     pub fn source(
         &self,
         trail: &List<Entry>,
