@@ -1,17 +1,16 @@
 -- What is committed at one node is what is committed in the world.
-use Rattle.std.proofs.Common.{◌≡◌, ℕ, ◌++◌, Ok, Err, Some, None, Option, Result, refl, ap, ◌∙◌}
+use Rattle.std.proofs.Common.{◌≡◌, ℕ, Ok, Err, Some, None, Option, Result, refl, ap, ◌∙◌}
 use Rattle.bridge.specs.declared.state.Bridge.{Bridge}
 use Rattle.bridge.specs.declared.fault.DeviceFault.{DeviceFault}
 use Rattle.coherence.specs.Steps.{Answer, committed, fits, by_first, by_second, wished, ruled, settled}
 use Rattle.coherence.specs.declared.call.Call.TheVariants.{Act, Deliver}
 use Rattle.coherence.specs.declared.fault.Fault.{Fault}
 use Rattle.device.specs.Meaning.{Meaning}
-use Rattle.coherence.specs.Worlds.{World, with_first, with_second, with_lists}
-use Rattle.message.specs.Reactions.{sent}
+use Rattle.coherence.specs.Worlds.{World, with_first, with_second}
 use Rattle.message.specs.declared.reaction.Reaction.{Reaction}
-use Rattle.std.specs.Option.{option_map, option_to_list}
+use Rattle.std.specs.Option.{option_map}
 use Rattle.raster.specs.Commits.{bridge_committed, by_wish, by_rule}
-use Rattle.raster.specs.Lists.{Lists, left, posted}
+use Rattle.raster.specs.Lists.{Lists, left}
 
 -- A world's lists, and a world with other ones.
 abbrev world_lists : {A B : Type 0} → World A B → Lists

@@ -1,5 +1,5 @@
 -- What a plan leads to is what it says: its messages, its entries and its numbers.
-use Rattle.std.proofs.Common.{◌≡◌, ℕ, ◌+◌, ◌≤◌, cond, List, ◌++◌, length, is_some, Some, None, Ok, Err, Option, Result, refl, ap, ◌∙◌, arith}
+use Rattle.std.proofs.Common.{◌≡◌, ℕ, ◌+◌, ◌≤◌, cond, length, is_some, Some, None, Ok, Err, Option, Result, refl, ap, ◌∙◌, arith}
 use Rattle.bridge.proofs.Writing.{plans_are_kept}
 use Rattle.bridge.specs.Deeds.{performed}
 use Rattle.bridge.specs.Plans.{sends, enters, plan_within}
@@ -9,12 +9,10 @@ use Rattle.bridge.specs.declared.plan.Plan.{Plan}
 use Rattle.bridge.specs.declared.state.Bridge.{Bridge}
 use Rattle.coherence.specs.Steps.{bridge_within}
 use Rattle.device.specs.Meaning.{Meaning}
-use Rattle.message.specs.Reactions.{sent, sent_count}
+use Rattle.message.specs.Reactions.{sent_count}
 use Rattle.message.specs.declared.reaction.Reaction.{Reaction}
 use Rattle.coherence.specs.declared.fault.Fault.{Fault}
-use Rattle.message.specs.declared.message.Message.{Message}
 use Rattle.std.proofs.lemmas.Bool.Decides.{nat_tests}
-use Rattle.trail.specs.declared.entry.Entry.{Entry}
 use Rattle.std.specs.Option.{option_to_list}
 use Rattle.raster.specs.Commits.{planned, fitting, bridge_committed}
 use Rattle.raster.specs.Lists.{Lists, left, posted}

@@ -1,5 +1,5 @@
 -- What a node decided is committed: all or nothing.
-use Rattle.std.specs.Prelude.{◌≡◌, ℕ, if◌then◌else◌, List as Seq, length, Some, None, Ok, Err, Option, Result}
+use Rattle.std.specs.Prelude.{◌≡◌, ℕ, if◌then◌else◌, length, Some, None, Ok, Err, Option, Result}
 use Rattle.bridge.specs.Deeds.{performed}
 use Rattle.bridge.specs.Plans.{sends, enters, plan_within}
 use Rattle.bridge.specs.States.{view}

@@ -1,5 +1,5 @@
 -- Calls made in turn: the world that they lead to, and their answers.
-use Rattle.std.specs.Prelude.{◌≡◌, ℕ, List, [], ◌∷◌, ◌++◌}
+use Rattle.std.specs.Prelude.{◌≡◌, List, [], ◌∷◌, ◌++◌}
 use Rattle.coherence.specs.Histories.{run, answered}
 use Rattle.coherence.specs.Makings.{Making, make}
 use Rattle.coherence.specs.Promise.{OrderKept}
