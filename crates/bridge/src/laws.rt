@@ -28,7 +28,6 @@ pub fn values_are_entered<D: Device>()
 {}
 
 /// After NACK the request goes out again, with the clock as it stands now, and nothing else happens.
-#[tactic(auto, using(crate::proofs::Asking::refused_requests_go_out_again))]
 pub fn refused_requests_go_out_again<D: Device>()
     ensures { RefusedRequestsGoOutAgain D.Device.meaning }
 {}

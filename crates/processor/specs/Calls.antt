@@ -61,7 +61,9 @@ abbrev pub store : Processor ℕ → ℕ → ℕ → ℕ → Answer
 store s n w v =
     elim (ready s (block_of w) (owned_words (line_at s.lines (block_of w)))) [
       | Err e ↦ Err e
-      | Ok ws ↦ Ok (doing (operation_entry s n St w v) None (at_line (block_of w) (Exclusive (with_word ws w v)) (operated s)))
+      | Ok ws ↦
+          let line = Exclusive (with_word ws w v) in
+          Ok (doing (operation_entry s n St w v) None (at_line (block_of w) line (operated s)))
     ]
 
 -- GETS and GETX are asked for at a line I, UPG at S, WB at X.

@@ -31,7 +31,11 @@ Outcome = Option (Reaction (Processor ℕ))
 -- with the new global, marked and with the line's words if the line was X.
 abbrev pub acknowledgement : ℕ → Message ℕ → ℕ → Option Words → Message ℕ
 acknowledgement n m c owned =
-    record (plain kind.Ack n m.sender m.place) { words = unwrap_or owned no_words; clock = c; exclusive = is_some owned }
+    record (plain kind.Ack n m.sender m.place) {
+      words = unwrap_or owned no_words;
+      clock = c;
+      exclusive = is_some owned;
+    }
 
 abbrev pub giving_way : Processor ℕ → ℕ → Message ℕ → Line → Option Words → Reaction (Processor ℕ)
 giving_way s n m l owned =
