@@ -15,7 +15,7 @@ use Rattle.raster.specs.declared.board.Board.{Board}
 
 module _ {A B : Type 0} (a : Ghosts A) (b : Ghosts B) (x : Board A B) (ms : List (Message ℕ)) (es : List Entry) where
   -- The world before the call.
-  abbrev was : World a.State b.State
+  abbrev pub was : World a.State b.State
   was = world a.state b.state x ms es
 
   -- The answer, and the world that is left, are the step of the call.

@@ -111,9 +111,9 @@ pub fn play<A: Device, B: Device>(
 ) -> Board<A, B>
     ensures { let lines = script_lines script.now in
         let k = script_making lines words.now (A.Device.state first) (B.Device.state second)
-            messages.old trail.old in
+        messages.old trail.old in
         Played A.Device.meaning B.Device.meaning lines k outcomes.old outcomes.new
-            (world A.Device.state B.Device.state result messages.new trail.new) }
+        (world A.Device.state B.Device.state result messages.new trail.new) }
 {
     let mut lines = Reader::new(script);
     let opening = first_line(&mut lines);
