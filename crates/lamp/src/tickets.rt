@@ -1,8 +1,9 @@
 //! Calls by ticket whose outcome is known beforehand, so that no ticket is left over where none can be spent.
 
 ghost use Rattle.std.specs.Prelude.{◌≡◌, true, false, Some, None, Ok, Err};
-ghost use Rattle.coherence.specs.declared.call.Call.TheVariants.{LdIo, Collect, GiveUp};
+ghost use Rattle.coherence.specs.declared.call.Call.TheVariants.{LdIo};
 ghost use Rattle.lamp.specs.Shifts.{accepted_by};
+ghost use Rattle.raster.specs.Answers.{collect_by, give_up_by};
 ghost use Rattle.raster.specs.Calls.{Stepped};
 
 use coherence::fault::Fault;
@@ -58,10 +59,9 @@ pub fn collect<A: Device, B: Device>(
     trail: &mut List<Entry>,
     ticket: Ticket,
 ) -> u32
-    requires { accepted_by A.Device B.Device board.old messages.old trail.old
-        (Collect ticket.processor ticket.device) ≡ true }
+    requires { accepted_by A.Device B.Device board.old messages.old trail.old (collect_by ticket) ≡ true }
     ensures { Stepped A.Device B.Device board.old.board messages.old trail.old
-        (Collect ticket.processor ticket.device) (Ok (Some result)) board.new.board messages.new trail.new }
+        (collect_by ticket) (Ok (Some result)) board.new.board messages.new trail.new }
 {
     match board.collect(messages, trail, ticket) {
         Ok(word) => word,
@@ -76,10 +76,9 @@ pub fn collect_in_vain<A: Device, B: Device>(
     trail: &mut List<Entry>,
     ticket: Ticket,
 ) -> (Fault, Ticket)
-    requires { accepted_by A.Device B.Device board.old messages.old trail.old
-        (Collect ticket.processor ticket.device) ≡ false }
+    requires { accepted_by A.Device B.Device board.old messages.old trail.old (collect_by ticket) ≡ false }
     ensures step { Stepped A.Device B.Device board.old.board messages.old trail.old
-        (Collect ticket.processor ticket.device) (Err result.0) board.new.board messages.new trail.new }
+        (collect_by ticket) (Err result.0) board.new.board messages.new trail.new }
     ensures ticket { result.1 ≡ ticket }
 {
     match board.collect(messages, trail, ticket) {
@@ -95,10 +94,9 @@ pub fn give_up<A: Device, B: Device>(
     trail: &mut List<Entry>,
     ticket: Ticket,
 )
-    requires { accepted_by A.Device B.Device board.old messages.old trail.old
-        (GiveUp ticket.processor ticket.device) ≡ true }
+    requires { accepted_by A.Device B.Device board.old messages.old trail.old (give_up_by ticket) ≡ true }
     ensures { Stepped A.Device B.Device board.old.board messages.old trail.old
-        (GiveUp ticket.processor ticket.device) (Ok None) board.new.board messages.new trail.new }
+        (give_up_by ticket) (Ok None) board.new.board messages.new trail.new }
 {
     match board.give_up(messages, trail, ticket) {
         Ok(()) => (),

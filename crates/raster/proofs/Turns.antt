@@ -10,7 +10,7 @@ use Rattle.coherence.specs.declared.call.Call.{Call}
 use Rattle.coherence.specs.declared.call.Call.TheVariants.{Load}
 use Rattle.device.specs.Meaning.{Meaning, Laws}
 use Rattle.std.proofs.lemmas.List.{length-take-le, take_more}
-use Rattle.raster.specs.Runs.{world_after, answers_of, overlaid, Called, Ran}
+use Rattle.raster.specs.Runs.{world_after, answers_of, overlaid, CallsComeTo, RunComesTo}
 
 pub overlaid_none : {X : Type 0} (xs : List X) → overlaid xs [] ≡ xs
 overlaid_none [] = refl
@@ -52,8 +52,8 @@ module _ {A B : Type 0} (ma : Meaning A) (mb : Meaning B) where
 
   -- a call made on the world so far, and its answer written behind those so far
   pub turned : (start : World A B) (cs : List Call) (i : ℕ) (was so_far : List Answer) (w v : World A B) (r : Answer) → i < length cs
-      → Called ma mb start (take i cs) was so_far w → (r, v) ≡ step ma mb (get_or cs i (Load 0 0)) w
-      → Called ma mb start (take (i + 1) cs) was (set so_far i r) v
+      → CallsComeTo ma mb start (take i cs) was so_far w → (r, v) ≡ step ma mb (get_or cs i (Load 0 0)) w
+      → CallsComeTo ma mb start (take (i + 1) cs) was (set so_far i r) v
   turned start cs i was so_far w v r h before made =
       let made_at = made ∙ ap (λ (x : World A B). step ma mb (get_or cs i (Load 0 0)) x) before.world in
       record {
@@ -64,7 +64,7 @@ module _ {A B : Type 0} (ma : Meaning A) (mb : Meaning B) where
             ∙ answers_more start cs i (Load 0 0) was h;
       }
 
-  pub none_called : (w : World A B) (was : List Answer) → Called ma mb w [] was was w
+  pub none_called : (w : World A B) (was : List Answer) → CallsComeTo ma mb w [] was was w
   none_called w was = record { world = refl; answers = sym (overlaid_none was) }
 
   after_world : (h : History A B) (cs : List Call) → (after_calls ma mb h cs).world ≡ world_after ma mb h.world cs
@@ -79,7 +79,7 @@ module _ {A B : Type 0} (ma : Meaning A) (mb : Meaning B) where
 
   -- A making and then calls, with the run's promise.
   pub ran : Laws ma → Laws mb → (k : Making A B) (cs : List Call) (before now : List Answer) (w v : World A B) → w ≡ make ma mb k
-      → Called ma mb w cs before now v → Ran ma mb k cs before now v
+      → CallsComeTo ma mb w cs before now v → RunComesTo ma mb k cs before now v
   ran la lb k cs before now w v made called = record {
     calls = rw (sym made) called;
     history = run_world k cs;

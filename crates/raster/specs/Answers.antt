@@ -1,6 +1,8 @@
 -- What a call answers, as the answer of a step.
 use Rattle.std.specs.Prelude.{ℕ, Bool, List, Some, None, Ok, Err, Option, Result}
 use Rattle.coherence.specs.Steps.{Answer, check}
+use Rattle.coherence.specs.declared.call.Call.{Call}
+use Rattle.coherence.specs.declared.call.Call.TheVariants.{Collect, GiveUp}
 use Rattle.coherence.specs.declared.fault.BoardFault.TheVariants.{NotFit, Argument}
 use Rattle.coherence.specs.declared.fault.Fault.{Fault}
 use Rattle.coherence.specs.declared.fault.Fault.TheVariants.{Board}
@@ -24,6 +26,13 @@ done_answer (Err f) = Err f
 abbrev pub ticket_answer : Result Ticket Fault → Answer
 ticket_answer (Ok t) = Ok None
 ticket_answer (Err f) = Err f
+
+-- The calls that spend a ticket.
+abbrev pub collect_by : Ticket → Call
+collect_by t = Collect t.processor t.device
+
+abbrev pub give_up_by : Ticket → Call
+give_up_by t = GiveUp t.processor t.device
 
 -- A refusal hands the ticket back.
 abbrev pub refusal : {R : Type 0} → Result R (Fault × Ticket) → Result R Fault

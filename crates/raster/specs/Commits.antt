@@ -2,6 +2,7 @@
 use Rattle.std.specs.Prelude.{◌≡◌, ℕ, if◌then◌else◌, length, Some, None, Ok, Err, Option, Result}
 use Rattle.bridge.specs.Deeds.{performed}
 use Rattle.bridge.specs.Plans.{sends, enters, plan_within}
+use Rattle.bridge.specs.Reactions.{act, receive}
 use Rattle.bridge.specs.States.{view}
 use Rattle.bridge.specs.declared.fault.DeviceFault.{DeviceFault}
 use Rattle.bridge.specs.declared.plan.Plan.{Plan}
@@ -72,10 +73,20 @@ abbrev pub by_rule : {S : Type 0} → ℕ → Option (Reaction (Bridge S ℕ)) �
 by_rule i (Some x) = Ok x
 by_rule i None = Err (Network (NoRule i))
 
--- Bridge d and both lists before, what it decides in its state, its answer, and the same after.
-abbrev pub BridgeCommitted : {D : Type 0} (t : Ghosts D) → ℕ → Bridge D ℕ → List (Message ℕ) → List Entry
-    → Option ℕ → (Bridge t.State ℕ → Result (Reaction (Bridge t.State ℕ)) Fault) → Answer
-    → Bridge D ℕ → List (Message ℕ) → List Entry → Type 0
-BridgeCommitted t d x ms es taken decided r x₁ ms₁ es₁ =
-    (r, view t.state x₁, lists ms₁ es₁)
-    ≡ bridge_committed d (view t.state x) (decided (view t.state x)) taken (lists ms es)
+-- Bridge d and both lists before, what it decides, its answer, and the same after.
+module _ {D : Type 0} (t : Ghosts D) (d : ℕ) (x : Bridge D ℕ) (ms : List (Message ℕ)) (es : List Entry) where
+  abbrev pub BridgeCommitted : Option ℕ → Result (Reaction (Bridge t.State ℕ)) Fault → Answer
+      → Bridge D ℕ → List (Message ℕ) → List Entry → Type 0
+  BridgeCommitted taken decided r x₁ ms₁ es₁ =
+      (r, view t.state x₁, lists ms₁ es₁) ≡ bridge_committed d (view t.state x) decided taken (lists ms es)
+
+  -- Its plan; on a board of ps processors its device's wish; and message m at place i.
+  abbrev pub PlanDone : Option ℕ → Plan ℕ → Answer → Bridge D ℕ → List (Message ℕ) → List Entry → Type 0
+  PlanDone taken p r x₁ ms₁ es₁ = BridgeCommitted taken (Ok (planned t.meaning d (view t.state x) p)) r x₁ ms₁ es₁
+
+  abbrev pub WishDone : ℕ → Answer → Bridge D ℕ → List (Message ℕ) → List Entry → Type 0
+  WishDone ps r x₁ ms₁ es₁ = BridgeCommitted None (by_wish (act t.meaning d ps (view t.state x))) r x₁ ms₁ es₁
+
+  abbrev pub MessageDone : ℕ → Message ℕ → Answer → Bridge D ℕ → List (Message ℕ) → List Entry → Type 0
+  MessageDone i m r x₁ ms₁ es₁ =
+      BridgeCommitted (Some i) (by_rule i (receive t.meaning d (view t.state x) m)) r x₁ ms₁ es₁

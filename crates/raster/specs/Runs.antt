@@ -32,12 +32,12 @@ module _ {A B : Type 0} (ma : Meaning A) (mb : Meaning B) where
       × OrderKept ma mb k (run ma mb k (cs ++ c ∷ []))
 
   -- From w the calls lead to v. As many answers are given as there are calls and places for them, over those before.
-  pub record Called (w : World A B) (cs : List Call) (before now : List Answer) (v : World A B) : Type 0 where
+  pub record CallsComeTo (w : World A B) (cs : List Call) (before now : List Answer) (v : World A B) : Type 0 where
     pub world : v ≡ world_after w cs
     pub answers : now ≡ overlaid before (answers_of w cs)
 
   -- Made of k, and then called: the run's history has the world that the calls lead to, and keeps the order promise.
-  pub record Ran (k : Making A B) (cs : List Call) (before now : List Answer) (v : World A B) : Type 0 where
-    pub calls : Called (make ma mb k) cs before now v
+  pub record RunComesTo (k : Making A B) (cs : List Call) (before now : List Answer) (v : World A B) : Type 0 where
+    pub calls : CallsComeTo (make ma mb k) cs before now v
     pub history : (run ma mb k cs).world ≡ world_after (make ma mb k) cs
     pub promise : OrderKept ma mb k (run ma mb k cs)

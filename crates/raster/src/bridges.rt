@@ -1,9 +1,7 @@
 //! What is done at one bridge, of whichever device: its wish, or a message that reached it.
 
-ghost use Rattle.std.specs.Prelude.{Some, None};
-ghost use Rattle.bridge.specs.Reactions.{act, receive};
 ghost use Rattle.raster.specs.Answers.{done_answer};
-ghost use Rattle.raster.specs.Commits.{BridgeCommitted, by_wish, by_rule};
+ghost use Rattle.raster.specs.Commits.{WishDone, MessageDone};
 
 use crate::commit::commit_plan;
 use bridge::state::Bridge;
@@ -22,9 +20,8 @@ pub(crate) fn act_at<D: Device>(
     number: u8,
     processors: u32,
 ) -> Result<(), Fault>
-    ensures { BridgeCommitted D.Device number bridge.old messages.old trail.old None
-        (λ b. by_wish (act D.Device.meaning number processors b))
-        (done_answer result) bridge.new messages.new trail.new }
+    ensures { WishDone D.Device number bridge.old messages.old trail.old
+        processors (done_answer result) bridge.new messages.new trail.new }
 {
     let plan = bridge.act(number, processors)?;
     commit_plan(bridge, messages, trail, None, number, plan)
@@ -40,9 +37,8 @@ pub(crate) fn reach_at<D: Device>(
     place: usize,
     message: Message<u32>,
 ) -> Result<(), Fault>
-    ensures { BridgeCommitted D.Device number bridge.old messages.old trail.old (Some place)
-        (λ b. by_rule place (receive D.Device.meaning number b message))
-        (done_answer result) bridge.new messages.new trail.new }
+    ensures { MessageDone D.Device number bridge.old messages.old trail.old
+        place message (done_answer result) bridge.new messages.new trail.new }
 {
     let plan = bridge.receive(number, message);
     let plan = plan.ok_or(NetworkFault::NoRule(place))?;

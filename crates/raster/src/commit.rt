@@ -1,13 +1,12 @@
 //! Committing a reaction: where both lists have room and all numbers are within their end, the node, the lists and the
 //! answer change together; else nothing does.
 
-ghost use Rattle.std.specs.Prelude.{◌≡◌, ◌<◌, IfOk, Ok};
+ghost use Rattle.std.specs.Prelude.{◌≡◌, ◌<◌, IfOk};
 ghost use Rattle.bridge.specs.Deeds.{outcome_of};
 ghost use Rattle.bridge.specs.States.{view};
-ghost use Rattle.coherence.specs.Steps.{by_processor, by_home};
 ghost use Rattle.raster.specs.Answers.{done_answer};
-ghost use Rattle.raster.specs.Calls.{Committed};
-ghost use Rattle.raster.specs.Commits.{fitting, planned, reaction_committed, BridgeCommitted};
+ghost use Rattle.raster.specs.Calls.{ProcessorCommitted, HomeCommitted};
+ghost use Rattle.raster.specs.Commits.{fitting, planned, reaction_committed, PlanDone};
 ghost use Rattle.raster.specs.Lists.{lists};
 
 use crate::board::Board;
@@ -88,8 +87,8 @@ pub(crate) fn commit_plan<D: Device>(
     number: u8,
     plan: Plan<u64>,
 ) -> Result<(), Fault>
-    ensures { BridgeCommitted D.Device number bridge.old messages.old trail.old taken
-        (λ b. Ok (planned D.Device.meaning number b plan)) (done_answer result) bridge.new messages.new trail.new }
+    ensures { PlanDone D.Device number bridge.old messages.old trail.old
+        taken plan (done_answer result) bridge.new messages.new trail.new }
 {
     let plan = fitting(messages, trail, taken, number, plan)?;
     let outcome = perform(bridge, number, plan);
@@ -109,8 +108,8 @@ impl<A: Device, B: Device> Board<A, B> {
         reaction: Reaction<Processor<u64>>,
     ) -> Result<Option<u32>, Fault>
         requires { processor < 4 }
-        ensures step { Committed A.Device B.Device self.old messages.old trail.old
-            taken (λ w. by_processor w processor reaction) result self.new messages.new trail.new }
+        ensures step { ProcessorCommitted A.Device B.Device self.old messages.old trail.old
+            taken processor reaction result self.new messages.new trail.new }
         ensures answer { IfOk result (λ a. a ≡ reaction.answer) }
     {
         let next = commit_reaction(messages, trail, taken, processor, reaction)?;
@@ -128,8 +127,8 @@ impl<A: Device, B: Device> Board<A, B> {
         reaction: Reaction<Home<u64>>,
     ) -> Result<Option<u32>, Fault>
         requires { block < 16 }
-        ensures step { Committed A.Device B.Device self.old messages.old trail.old
-            taken (λ w. by_home w block reaction) result self.new messages.new trail.new }
+        ensures step { HomeCommitted A.Device B.Device self.old messages.old trail.old
+            taken block reaction result self.new messages.new trail.new }
         ensures answer { IfOk result (λ a. a ≡ reaction.answer) }
     {
         let next = commit_reaction(messages, trail, taken, 16 + block, reaction)?;

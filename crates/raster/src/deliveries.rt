@@ -1,19 +1,14 @@
 //! Deliveries: which message, and what it does at its receiver, the one node that reacts.
 
-ghost use Rattle.std.specs.Prelude.{◌≡◌, ◌<◌, true, length, is_some, IfSome, IfOk, None, OnOk, nat_lt, slice_index_or};
-ghost use Rattle.coherence.specs.Steps.{delivered, by_processor, by_home};
-ghost use Rattle.coherence.specs.Worlds.{processor_at, home_at};
-ghost use Rattle.home.specs.Reactions.{received};
+ghost use Rattle.std.specs.Prelude.{◌≡◌, true, length, is_some, IfSome, IfOk, None, OnOk, nat_lt, slice_index_or};
 ghost use Rattle.list.specs.Contents.{contents};
 ghost use Rattle.message.specs.Checks.{checked, well_formed};
 ghost use Rattle.message.specs.Messages.{no_message};
 ghost use Rattle.message.specs.Nodes.{node_numbered};
 ghost use Rattle.message.specs.Pairs.{oldest_of_pair};
-ghost use Rattle.processor.specs.Receive.{receive};
-ghost use Rattle.std.specs.Option.{option_map};
 ghost use Rattle.raster.specs.Answers.{done_answer};
 ghost use Rattle.raster.specs.Boards.{board_figures};
-ghost use Rattle.raster.specs.Calls.{Reached};
+ghost use Rattle.raster.specs.Calls.{Delivered};
 ghost use Rattle.raster.specs.Picking.{picked, There};
 
 use crate::board::Board;
@@ -67,9 +62,8 @@ impl<A: Device, B: Device> Board<A, B> {
         place: usize,
         message: Message,
     ) -> Result<(), Fault>
-        ensures { Reached A.Device B.Device self.old messages.old trail.old
-            place (λ w. delivered A.Device.meaning B.Device.meaning w message)
-            (done_answer result) self.new messages.new trail.new }
+        ensures { Delivered A.Device B.Device self.old messages.old trail.old
+            place message (done_answer result) self.new messages.new trail.new }
     {
         let no_rule = NetworkFault::NoRule(place);
         let message = self.formed(message).ok_or(no_rule)?;

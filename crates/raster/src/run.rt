@@ -1,8 +1,8 @@
 //! Whole runs: one making, and then calls in turn.
 
 ghost use Rattle.std.specs.Prelude.{◌≡◌, slice_set};
-ghost use Rattle.raster.specs.Boards.{world, board_making};
-ghost use Rattle.raster.specs.Runs.{Called, Ran};
+ghost use Rattle.raster.specs.Boards.{Ran};
+ghost use Rattle.raster.specs.Calls.{Called};
 
 use crate::board::Board;
 use coherence::call::Call;
@@ -32,10 +32,8 @@ impl<A: Device, B: Device> Board<A, B> {
         calls: &[Call],
         answers: &mut [Result<Option<u32>, Fault>],
     )
-        ensures { Called A.Device.meaning B.Device.meaning
-            (world A.Device.state B.Device.state self.old messages.old trail.old)
-            calls.now answers.old answers.new
-            (world A.Device.state B.Device.state self.new messages.new trail.new) }
+        ensures { Called A.Device B.Device self.old messages.old trail.old
+            calls.now answers.old answers.new self.new messages.new trail.new }
     {
         for (place, call) in calls.iter().enumerate() {
             let answer = self.call(messages, trail, *call);
@@ -57,10 +55,8 @@ pub fn run<A: Device, B: Device>(
     calls: &[Call],
     answers: &mut [Result<Option<u32>, Fault>],
 ) -> Board<A, B>
-    ensures { let k = board_making A.Device B.Device
-        processors clock words.now first second messages.old trail.old in
-        Ran A.Device.meaning B.Device.meaning k calls.now answers.old answers.new
-        (world A.Device.state B.Device.state result messages.new trail.new) }
+    ensures { Ran A.Device B.Device processors clock words.now first second messages.old trail.old
+        calls.now answers.old answers.new result messages.new trail.new }
 {
     let mut board = Board::make(processors, clock, words, first, second, messages, trail);
     board.call_all(messages, trail, calls, answers);

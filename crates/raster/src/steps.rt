@@ -1,14 +1,10 @@
 //! The step of each call: the checks in the order of their numbers, one node's reaction, one commit.
 
-ghost use Rattle.std.specs.Prelude.{◌≡◌, ◌<◌, true, length, Ok, OnOk, nat_lt, slice_index_or};
-ghost use Rattle.coherence.specs.Steps.{check, argument};
-ghost use Rattle.coherence.specs.Worlds.{no_processor};
+ghost use Rattle.std.specs.Prelude.{◌≡◌, ◌<◌, true, length, OnOk, nat_lt};
 ghost use Rattle.coherence.specs.declared.call.Call.TheVariants.{Load, Store, Request, LdIo, StIo};
 ghost use Rattle.coherence.specs.declared.call.Call.TheVariants.{Collect, GiveUp, Act, Deliver, Poll};
-ghost use Rattle.coherence.specs.declared.fault.BoardFault.TheVariants.{NotFit};
-ghost use Rattle.coherence.specs.declared.fault.Fault.TheVariants as fault;
 ghost use Rattle.raster.specs.Answers.{word_answer, done_answer};
-ghost use Rattle.raster.specs.Boards.{device_words};
+ghost use Rattle.raster.specs.Boards.{device_words, known_processor, known_word};
 ghost use Rattle.raster.specs.Calls.{Stepped};
 
 use crate::board::{Board, check_below};
@@ -25,9 +21,7 @@ use trail::entry::Entry;
 impl<A: Device, B: Device> Board<A, B> {
     // A processor of a board that is fit; its number is every call's first argument.
     fn processor(&self, number: u32) -> Result<Processor, Fault>
-        ensures value { result ≡ check self.now.tables.fit (fault.Board NotFit)
-            (check (nat_lt number self.now.tables.count) (argument 1)
-            (Ok (slice_index_or self.now.tables.processors number no_processor))) }
+        ensures value { result ≡ known_processor self.now number }
         ensures place { OnOk result (number < 4) }
     {
         self.check_fit()?;
@@ -37,8 +31,7 @@ impl<A: Device, B: Device> Board<A, B> {
 
     // A word of a device: the second and the third argument.
     fn check_device_word(&self, device: u32, word: u32) -> Result<(), Fault>
-        ensures value { result ≡ check (nat_lt device 2) (argument 2)
-            (check (nat_lt word (length (device_words A.Device B.Device self.now device))) (argument 3) (Ok tt)) }
+        ensures value { result ≡ known_word A.Device B.Device self.now device word }
         ensures device { OnOk result (nat_lt device 2 ≡ true) }
         ensures word { OnOk result (nat_lt word (length (device_words A.Device B.Device self.now device)) ≡ true) }
     {

@@ -3,10 +3,11 @@
 
 ghost use Rattle.std.specs.Prelude.{◌≡◌, IfOk, IfErr};
 ghost use Rattle.coherence.specs.declared.call.Call.TheVariants.{Load, Store, Request, LdIo, StIo};
-ghost use Rattle.coherence.specs.declared.call.Call.TheVariants.{Collect, GiveUp, Act, Deliver, Poll};
+ghost use Rattle.coherence.specs.declared.call.Call.TheVariants.{Act, Deliver, Poll};
 ghost use Rattle.list.specs.Contents.{contents};
-ghost use Rattle.raster.specs.Answers.{word_answer, done_answer, ticket_answer, refusal, source_answer};
-ghost use Rattle.raster.specs.Calls.{Did};
+ghost use Rattle.raster.specs.Answers.{word_answer, done_answer, ticket_answer};
+ghost use Rattle.raster.specs.Answers.{collect_by, give_up_by, refusal, source_answer};
+ghost use Rattle.raster.specs.Calls.{ByTicket};
 
 use crate::board::Board;
 use coherence::fault::Fault;
@@ -50,7 +51,7 @@ impl Ticket {
 
 // Call by call, and not by `Deref`: a board that is lent out gives LDio without a ticket.
 impl<A: Device, B: Device> Ticketed<A, B> {
-    /// A board that gives its slots out by ticket; tickets for what was asked before by number there are none.
+    /// From now on slots go by ticket. A slot that was taken by number before has no ticket.
     pub fn new(board: Board<A, B>) -> Ticketed<A, B>
         ensures { result.board ≡ board }
     {
@@ -66,8 +67,8 @@ impl<A: Device, B: Device> Ticketed<A, B> {
         device: u32,
         word: u32,
     ) -> Result<Ticket, Fault>
-        ensures call { Did A.Device B.Device self.old.board messages.old trail.old
-            (LdIo processor device word) (ticket_answer result) self.new.board messages.new trail.new }
+        ensures call { ByTicket A.Device B.Device self.old messages.old trail.old
+            (LdIo processor device word) (ticket_answer result) self.new messages.new trail.new }
         ensures ticket { IfOk result (λ t. (t.processor ≡ processor) × (t.device ≡ device)) }
     {
         self.board.ldio(messages, trail, processor, device, word)?;
@@ -81,9 +82,8 @@ impl<A: Device, B: Device> Ticketed<A, B> {
         trail: &mut List<Entry>,
         ticket: Ticket,
     ) -> Result<u32, (Fault, Ticket)>
-        ensures call { Did A.Device B.Device self.old.board messages.old trail.old
-            (Collect ticket.processor ticket.device) (word_answer (refusal result))
-            self.new.board messages.new trail.new }
+        ensures call { ByTicket A.Device B.Device self.old messages.old trail.old
+            (collect_by ticket) (word_answer (refusal result)) self.new messages.new trail.new }
         ensures ticket { IfErr result (λ e. e.1 ≡ ticket) }
     {
         let answer = self
@@ -99,9 +99,8 @@ impl<A: Device, B: Device> Ticketed<A, B> {
         trail: &mut List<Entry>,
         ticket: Ticket,
     ) -> Result<(), (Fault, Ticket)>
-        ensures call { Did A.Device B.Device self.old.board messages.old trail.old
-            (GiveUp ticket.processor ticket.device) (done_answer (refusal result))
-            self.new.board messages.new trail.new }
+        ensures call { ByTicket A.Device B.Device self.old messages.old trail.old
+            (give_up_by ticket) (done_answer (refusal result)) self.new messages.new trail.new }
         ensures ticket { IfErr result (λ e. e.1 ≡ ticket) }
     {
         let answer = self
@@ -118,8 +117,8 @@ impl<A: Device, B: Device> Ticketed<A, B> {
         processor: u32,
         word: u32,
     ) -> Result<u32, Fault>
-        ensures { Did A.Device B.Device self.old.board messages.old trail.old
-            (Load processor word) (word_answer result) self.new.board messages.new trail.new }
+        ensures { ByTicket A.Device B.Device self.old messages.old trail.old
+            (Load processor word) (word_answer result) self.new messages.new trail.new }
     {
         self.board.load(messages, trail, processor, word)
     }
@@ -133,8 +132,8 @@ impl<A: Device, B: Device> Ticketed<A, B> {
         word: u32,
         value: u32,
     ) -> Result<(), Fault>
-        ensures { Did A.Device B.Device self.old.board messages.old trail.old
-            (Store processor word value) (done_answer result) self.new.board messages.new trail.new }
+        ensures { ByTicket A.Device B.Device self.old messages.old trail.old
+            (Store processor word value) (done_answer result) self.new messages.new trail.new }
     {
         self.board.store(messages, trail, processor, word, value)
     }
@@ -148,8 +147,8 @@ impl<A: Device, B: Device> Ticketed<A, B> {
         block: u32,
         kind: u32,
     ) -> Result<(), Fault>
-        ensures { Did A.Device B.Device self.old.board messages.old trail.old
-            (Request processor block kind) (done_answer result) self.new.board messages.new trail.new }
+        ensures { ByTicket A.Device B.Device self.old messages.old trail.old
+            (Request processor block kind) (done_answer result) self.new messages.new trail.new }
     {
         self.board.request(messages, trail, processor, block, kind)
     }
@@ -164,8 +163,8 @@ impl<A: Device, B: Device> Ticketed<A, B> {
         word: u32,
         value: u32,
     ) -> Result<(), Fault>
-        ensures { Did A.Device B.Device self.old.board messages.old trail.old
-            (StIo processor device word value) (done_answer result) self.new.board messages.new trail.new }
+        ensures { ByTicket A.Device B.Device self.old messages.old trail.old
+            (StIo processor device word value) (done_answer result) self.new messages.new trail.new }
     {
         self.board
             .stio(messages, trail, processor, device, word, value)
@@ -178,8 +177,8 @@ impl<A: Device, B: Device> Ticketed<A, B> {
         trail: &mut List<Entry>,
         device: u32,
     ) -> Result<(), Fault>
-        ensures { Did A.Device B.Device self.old.board messages.old trail.old
-            (Act device) (done_answer result) self.new.board messages.new trail.new }
+        ensures { ByTicket A.Device B.Device self.old messages.old trail.old
+            (Act device) (done_answer result) self.new messages.new trail.new }
     {
         self.board.act(messages, trail, device)
     }
@@ -191,8 +190,8 @@ impl<A: Device, B: Device> Ticketed<A, B> {
         trail: &mut List<Entry>,
         place: u32,
     ) -> Result<(), Fault>
-        ensures { Did A.Device B.Device self.old.board messages.old trail.old
-            (Deliver place) (done_answer result) self.new.board messages.new trail.new }
+        ensures { ByTicket A.Device B.Device self.old messages.old trail.old
+            (Deliver place) (done_answer result) self.new messages.new trail.new }
     {
         self.board.deliver(messages, trail, place)
     }
@@ -204,8 +203,8 @@ impl<A: Device, B: Device> Ticketed<A, B> {
         trail: &mut List<Entry>,
         processor: u32,
     ) -> Result<Option<u32>, Fault>
-        ensures { Did A.Device B.Device self.old.board messages.old trail.old
-            (Poll processor) result self.new.board messages.new trail.new }
+        ensures { ByTicket A.Device B.Device self.old messages.old trail.old
+            (Poll processor) result self.new messages.new trail.new }
     {
         self.board.poll(messages, trail, processor)
     }

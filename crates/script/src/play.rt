@@ -2,10 +2,9 @@
 
 ghost use Rattle.std.specs.Prelude.{◌≡◌};
 ghost use Rattle.list.specs.Contents.{contents, room};
-ghost use Rattle.raster.specs.Boards.{world};
-ghost use Rattle.script.specs.Lines.{script_lines, seen, to_read};
+ghost use Rattle.script.specs.Lines.{seen, to_read};
 ghost use Rattle.script.specs.Plays.{Lined, LinesPlayed, Played};
-ghost use Rattle.script.specs.Scripts.{first_line, later, asked, opened, first_outcome, noted, script_making};
+ghost use Rattle.script.specs.Scripts.{first_line, later, asked, opened, first_outcome, noted};
 
 use crate::fault::ScriptFault;
 use crate::line::{Line, Opening};
@@ -87,10 +86,8 @@ fn call_lines<A: Device, B: Device>(
     lines: Reader,
     outcomes: &mut List<Outcome>,
 )
-    ensures { LinesPlayed A.Device.meaning B.Device.meaning
-        (world A.Device.state B.Device.state board.old messages.old trail.old)
-        (to_read lines.entry) outcomes.old outcomes.new
-        (world A.Device.state B.Device.state board.new messages.new trail.new) }
+    ensures { LinesPlayed A.Device B.Device board.old messages.old trail.old
+        (to_read lines.entry) outcomes.old outcomes.new board.new messages.new trail.new }
 {
     for line in lines {
         let result = call_line(board, messages, trail, line);
@@ -98,8 +95,8 @@ fn call_lines<A: Device, B: Device>(
     }
 }
 
-/// Plays a script: its first line makes the board, and each later line makes its call. The lines' outcomes are noted in turn
-/// while there is room. The run keeps the order promise.
+/// Plays a script: its first line makes the board, and each later line makes its call. The lines' outcomes are noted in
+/// turn while there is room. The run keeps the order promise.
 pub fn play<A: Device, B: Device>(
     script: &[u8],
     words: &[u32],
@@ -109,11 +106,8 @@ pub fn play<A: Device, B: Device>(
     trail: &mut List<Entry>,
     outcomes: &mut List<Outcome>,
 ) -> Board<A, B>
-    ensures { let lines = script_lines script.now in
-        let k = script_making lines words.now (A.Device.state first) (B.Device.state second)
-        messages.old trail.old in
-        Played A.Device.meaning B.Device.meaning lines k outcomes.old outcomes.new
-        (world A.Device.state B.Device.state result messages.new trail.new) }
+    ensures { Played A.Device B.Device script.now words.now first second messages.old trail.old
+        outcomes.old outcomes.new result messages.new trail.new }
 {
     let mut lines = Reader::new(script);
     let opening = first_line(&mut lines);
