@@ -315,7 +315,7 @@ class Board:
         self.nodes.update((16 + b, Home(b, start)) for b in range(BLOCKS))
 
     def call(self, letter, arguments):
-        """Does a call and gives back what is told, if anything; or raises the refusal."""
+        """Does a call and gives back its answer, if it has one; or raises the refusal."""
         if not self.fit:
             raise Refused(1, 0)
         names, call = CALLS[letter]
@@ -327,9 +327,9 @@ class Board:
         if letter == "G":
             return self.deliver(arguments[0])
         node = self.nodes[arguments[0] + (4 if letter == "D" else 0)].twin()
-        told = call(node, self.processors) if letter == "D" else call(node, *arguments[1:])
+        answer = call(node, self.processors) if letter == "D" else call(node, *arguments[1:])
         self.settle(node, self.waiting)
-        return told
+        return answer
 
     def deliver(self, place):
         message = self.waiting[place]
@@ -400,14 +400,14 @@ def answer(board, number, line):
         if fields is None or (fields[0] == "M") != (number == 1):
             raise Refused(17, number)
         if fields[0] == "M":
-            board, told = Board(*fields[1]), None
+            board, value = Board(*fields[1]), None
             if not board.fit:
                 raise Refused(1, 0)
         else:
-            told = board.call(*fields)
+            value = board.call(*fields)
     except Refused as refusal:
         return board, "no\t%d\t%d" % refusal.args
-    return board, "ok" if told is None else "ok\t%d" % told
+    return board, "ok" if value is None else "ok\t%d" % value
 
 
 def play(script):

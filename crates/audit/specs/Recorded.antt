@@ -1,5 +1,5 @@
 -- An entry as it is recorded in a line of text.
-use Rattle.std.specs.Prelude.{ℕ, cond, List, [], ◌∷◌, Some, None, Option}
+use Rattle.std.specs.Prelude.{ℕ, if◌then◌else◌, List, [], ◌∷◌, Some, None, Option}
 use Rattle.ordering.specs.Operations.{name_of}
 use Rattle.ordering.specs.declared.operation.Operation.{Operation}
 use Rattle.ordering.specs.declared.operation.Operation.TheVariants.{Ld, St, LdIo, StIo, Int, LdBlk, StBlk}
@@ -12,14 +12,14 @@ use Rattle.trail.specs.declared.entry.Entry.{Entry}
 
 abbrev pub named : List ℕ → Option Operation
 named n =
-    cond (bytes_eq n (name_of Ld)) (Some Ld)
-    (cond (bytes_eq n (name_of St)) (Some St)
-    (cond (bytes_eq n (name_of LdIo)) (Some LdIo)
-    (cond (bytes_eq n (name_of StIo)) (Some StIo)
-    (cond (bytes_eq n (name_of Int)) (Some Int)
-    (cond (bytes_eq n (name_of LdBlk)) (Some LdBlk)
-    (cond (bytes_eq n (name_of StBlk)) (Some StBlk)
-    None))))))
+    if bytes_eq n (name_of Ld) then Some Ld
+    else if bytes_eq n (name_of St) then Some St
+    else if bytes_eq n (name_of LdIo) then Some LdIo
+    else if bytes_eq n (name_of StIo) then Some StIo
+    else if bytes_eq n (name_of Int) then Some Int
+    else if bytes_eq n (name_of LdBlk) then Some LdBlk
+    else if bytes_eq n (name_of StBlk) then Some StBlk
+    else None
 
 abbrev pub next_named : Option (List ℕ) → Option Operation
 next_named None = None
@@ -53,6 +53,7 @@ then_stamp r k = elim (next_stamp r) [ None ↦ None | Some s ↦ k s (after_sta
 -- Party, sequence number, operation, space, place, four values, global, local, node, and nothing more.
 abbrev pub recorded : List ℕ → Option Entry
 recorded line =
-    then_number (Some line) (λ p r₁. then_number r₁ (λ n r₂. then_named r₂ (λ o r₃. then_number r₃ (λ s r₄. then_number r₄ (λ w r₅.
+    then_number (Some line) (λ p r₁. then_number r₁ (λ n r₂. then_named r₂ (λ o r₃.
+    then_number r₃ (λ s r₄. then_number r₄ (λ w r₅.
     then_words r₅ (λ vs r₆. then_stamp r₆ (λ t r₇.
     at_end r₇ (record { party = p; sequence = n; operation = o; space = s; place = w; values = vs; stamp = t }))))))))

@@ -37,7 +37,7 @@ fn main(rt: HostRuntime) -> io::Result<()> {
     let mut trail = List::new(&mut memory);
     read_trail(&rt, &text, &mut trail)?;
     let entries = trail.records();
-    // By the entries' numbers, which are what is told.
+    // By the entries' numbers, which each finding has.
     for number in 0..entries.len() {
         for found in (0..4).filter_map(|word| audited(entries, number, word)) {
             rt.println(found)?;

@@ -1,6 +1,6 @@
 -- What a bridge does: the device's new state, what it sends, and the operation that it does. The bridge b has its
 -- new clock already.
-use Rattle.std.specs.Prelude.{ℕ, ◌+◌, false, Some, None, slice_index}
+use Rattle.std.specs.Prelude.{ℕ, ◌+◌, Some, None, slice_index}
 use Rattle.ordering.specs.Stamps.{stamped}
 use Rattle.ordering.specs.Words.{one_word}
 use Rattle.ordering.specs.declared.clock.Clock.{Clock}
@@ -11,7 +11,7 @@ use Rattle.trail.specs.declared.entry.Entry.{Entry}
 use Rattle.device.specs.Meaning.{Meaning, read_exit, write_exit}
 use Rattle.message.specs.Messages.{plain}
 use Rattle.message.specs.Nodes.{device_node}
-use Rattle.message.specs.Reactions.{single, sending, doing}
+use Rattle.message.specs.Reactions.{sending, doing}
 use Rattle.message.specs.declared.kind.Kind.TheVariants as kind
 use Rattle.message.specs.declared.message.Message.{Message}
 use Rattle.message.specs.declared.reaction.Reaction.{Reaction}
@@ -59,25 +59,15 @@ requested m b x = accepted m (at_request x.place (Some x.kind) b) x
 
 -- A processor's LDio: the word is read, and VALUE carries it back with the new clock.
 abbrev pub value_of : ℕ → Clock ℕ → WordAccess → ℕ → Message ℕ
-value_of d c a v = record {
-  kind = kind.Value;
-  sender = device_node d;
-  receiver = a.party;
-  place = a.place;
-  words = one_word v;
-  clock = c.global;
-  sequence = 0;
-  exclusive = false;
-  refused = None;
-}
+value_of d c a v =
+    record (plain kind.Value (device_node d) a.party a.place) { words = one_word v; clock = c.global }
 
 abbrev pub answered : {S : Type 0} → Meaning S → ℕ → Bridge S ℕ → WordAccess → Reaction (Bridge S ℕ)
-answered m d b a = record {
-  next = at_device (read_exit m b.device a.place) b;
-  sent = single (value_of d b.clock a (word_at m b a.place));
-  entry = Some (access_entry d b.clock a LdIo (word_at m b a.place));
-  answer = None;
-}
+answered m d b a =
+    let word = word_at m b a.place in
+    record (sending (value_of d b.clock a word) (at_device (read_exit m b.device a.place) b)) {
+      entry = Some (access_entry d b.clock a LdIo word);
+    }
 
 -- A processor's STio: the word is written.
 abbrev pub written : {S : Type 0} → Meaning S → ℕ → Bridge S ℕ → WordAccess → ℕ → Reaction (Bridge S ℕ)

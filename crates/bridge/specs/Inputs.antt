@@ -20,6 +20,13 @@ abbrev pub message_of : Input → Option (Message ℕ)
 message_of (Act ps) = None
 message_of (Receive x) = Some x
 
+-- A law about every reaction to a message: the bridge before, the device's number, the message, and the reaction.
+abbrev pub EachReceipt : {S : Type 0} → Meaning S → (Bridge S ℕ → ℕ → Message ℕ → Reaction (Bridge S ℕ) → Type 0)
+    → Type 0
+EachReceipt {S} m Holds = (b : Bridge S ℕ) (d : ℕ) (x : Message ℕ) (r : Reaction (Bridge S ℕ))
+    → receive m d b x ≡ Some r → Holds b d x r
+
 -- A law about every reaction: the bridge before, the device's number, what came, and the reaction.
 abbrev pub EachReaction : {S : Type 0} → Meaning S → (Bridge S ℕ → ℕ → Input → Reaction (Bridge S ℕ) → Type 0) → Type 0
-EachReaction {S} m Holds = (b : Bridge S ℕ) (d : ℕ) (i : Input) (r : Reaction (Bridge S ℕ)) → reaction m d b i ≡ Some r → Holds b d i r
+EachReaction {S} m Holds = (b : Bridge S ℕ) (d : ℕ) (i : Input) (r : Reaction (Bridge S ℕ))
+    → reaction m d b i ≡ Some r → Holds b d i r

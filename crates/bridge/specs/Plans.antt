@@ -1,35 +1,26 @@
 -- Plans: what a deed will send and enter, and the end of numbers.
-use Rattle.std.specs.Prelude.{ℕ, ◌+◌, Bool, true, false, cond, ◌&&◌, Some, None, Option, nat_le}
+use Rattle.std.specs.Prelude.{ℕ, ◌+◌, Bool, true, false, if◌then◌else◌, ◌&&◌, Some, None, Option, nat_le}
 use Rattle.ordering.specs.Clocks.{number_end, is_within}
 use Rattle.bridge.specs.declared.plan.Deed.{Deed}
-use Rattle.bridge.specs.declared.plan.Deed.TheVariants.{Load, Store, Interrupt, Request, Read, Write, Land, Finish, Resend}
+use Rattle.bridge.specs.declared.plan.Deed.TheVariants.{Load, Store, Read, Write}
 use Rattle.bridge.specs.declared.plan.Plan.{Plan}
 
 abbrev pub sends : Deed → ℕ
 sends (Load a) = 0
 sends (Store a v) = 0
-sends (Interrupt x) = 1
-sends (Request x) = 1
-sends (Read a) = 1
 sends (Write a v) = 0
-sends (Land h k ws) = 1
-sends (Finish h k) = 1
-sends (Resend x) = 1
+sends _ = 1
 
 abbrev pub enters : Deed → Bool
 enters (Load a) = true
 enters (Store a v) = true
-enters (Interrupt x) = false
-enters (Request x) = false
 enters (Read a) = true
 enters (Write a v) = true
-enters (Land h k ws) = false
-enters (Finish h k) = false
-enters (Resend x) = false
+enters _ = false
 
 -- No number passed its end. An operation with the last number may be done, so the next number may stand one past it.
 abbrev pub plan_within : Plan ℕ → Bool
 plan_within p = is_within p.clock && nat_le p.sequence (number_end + 1)
 
 abbrev pub settled_plan : Plan ℕ → Option (Plan ℕ)
-settled_plan p = cond (plan_within p) (Some p) None
+settled_plan p = if plan_within p then Some p else None

@@ -1,9 +1,10 @@
 -- What a bridge decides to do when a message reaches it, or none where there is no rule. The fields that a kind
 -- leaves empty, and who may send it, are not looked at here.
-use Rattle.std.specs.Prelude.{ℕ, false, cond, Some, None, Option, nat_lt}
+use Rattle.std.specs.Prelude.{ℕ, if◌then◌else◌, Some, None, Option, nat_lt}
 use Rattle.ordering.specs.Clocks.{passed, counted}
 use Rattle.ordering.specs.declared.clock.Clock.{Clock}
 use Rattle.device.specs.Meaning.{Meaning}
+use Rattle.message.specs.Messages.{plain}
 use Rattle.message.specs.Nodes.{device_node}
 use Rattle.message.specs.Requests.{is_out}
 use Rattle.message.specs.declared.kind.Kind.{Kind}
@@ -27,61 +28,34 @@ asked_access x = record { party = x.sender; sequence = x.sequence; place = x.pla
 
 abbrev pub asked : {S : Type 0} → Meaning S → Bridge S ℕ → Message ℕ → Deed → Option (Plan ℕ)
 asked m b x a =
-    cond (nat_lt x.place (word_count m b))
-    (Some (answering b (counted (passed b.clock x.clock)) a))
-    None
+    if nat_lt x.place (word_count m b) then Some (answering b (counted (passed b.clock x.clock)) a) else None
 
 -- WORDS and DONE: the request that is answered is out for the block, and the clock is passed.
 abbrev pub replied : {S : Type 0} → Bridge S ℕ → Message ℕ → Kind → Deed → Option (Plan ℕ)
 replied b x k a =
-    cond (is_out b.requests x.place k)
-    (Some (answering b (passed b.clock x.clock) a))
-    None
+    if is_out b.requests x.place k then Some (answering b (passed b.clock x.clock) a) else None
 
 -- NACK: the refused request goes to the same home again, with the clock as it stands now and the words and number
 -- that came back. No clock moves.
 abbrev pub again : {S : Type 0} → Kind → ℕ → Bridge S ℕ → Message ℕ → Message ℕ
-again k d b x = record {
-  kind = k;
-  sender = device_node d;
-  receiver = x.sender;
-  place = x.place;
-  words = x.words;
-  clock = b.clock.global;
-  sequence = x.sequence;
-  exclusive = false;
-  refused = None;
-}
+again k d b x =
+    record (plain k (device_node d) x.sender x.place) { words = x.words; clock = b.clock.global; sequence = x.sequence }
 
 abbrev pub refused : {S : Type 0} → ℕ → Bridge S ℕ → Message ℕ → Option (Plan ℕ)
 refused d b x =
     elim x.refused [
       | None ↦ None
-      | Some k ↦ cond (is_out b.requests x.place k) (Some (answering b b.clock (Resend (again k d b x)))) None
+      | Some k ↦ if is_out b.requests x.place k then Some (answering b b.clock (Resend (again k d b x))) else None
     ]
 
 -- The rules by kind. DONE answers Wblk, WORDS answers Rblk. Every other kind goes to processors or homes.
 abbrev pub receive_kind : {S : Type 0} → Kind → Meaning S → ℕ → Bridge S ℕ → Message ℕ → Option (Plan ℕ)
-receive_kind kind.Gets m d b x = None
-receive_kind kind.Getx m d b x = None
-receive_kind kind.Upg m d b x = None
-receive_kind kind.Wb m d b x = None
-receive_kind kind.Rblk m d b x = None
-receive_kind kind.Wblk m d b x = None
 receive_kind kind.Rio m d b x = asked m b x (Read (asked_access x))
 receive_kind kind.Wio m d b x = asked m b x (Write (asked_access x) (first_word x.words))
-receive_kind kind.Int m d b x = None
-receive_kind kind.Inv m d b x = None
-receive_kind kind.Down m d b x = None
-receive_kind kind.Ack m d b x = None
-receive_kind kind.SData m d b x = None
-receive_kind kind.XData m d b x = None
-receive_kind kind.Grant m d b x = None
 receive_kind kind.Done m d b x = replied b x kind.Wblk (Finish x.sender x.place)
 receive_kind kind.Words m d b x = replied b x kind.Rblk (Land x.sender x.place x.words)
-receive_kind kind.Value m d b x = None
 receive_kind kind.Nack m d b x = refused d b x
-receive_kind kind.Taken m d b x = None
+receive_kind _ m d b x = None
 
 abbrev pub receive_plan : {S : Type 0} → Meaning S → ℕ → Bridge S ℕ → Message ℕ → Option (Plan ℕ)
 receive_plan m d b x = receive_kind x.kind m d b x

@@ -13,9 +13,12 @@ use message::block::Block;
 use message::kind::Kind;
 use message::message::Message;
 use message::node::device_node;
-use message::requests::Requests;
+use message::table::Requests;
 use ordering::clock::Clock;
 use ordering::operation::{Operation, Words};
+
+/// What is planned for the device's wish, or why it is not done.
+pub type Decision = Result<Plan<u64>, DeviceFault>;
 
 // Whether a request is out for any block.
 fn any_out(requests: Requests) -> bool
@@ -66,7 +69,7 @@ impl<D: Device> Bridge<D> {
     }
 
     // An LDio or STio of its own, at a word that it has.
-    fn own(&self, number: u8, place: u32, deed: Deed) -> Result<Plan<u64>, DeviceFault>
+    fn own(&self, number: u8, place: u32, deed: Deed) -> Decision
         ensures { result ≡ own D.Device.meaning number (view D.Device.state self.now) place deed }
     {
         if place >= self.device.count() {
@@ -76,13 +79,7 @@ impl<D: Device> Bridge<D> {
     }
 
     // An interrupt says that what was asked for is there, so it waits for every block.
-    fn interrupt(
-        &self,
-        number: u8,
-        processors: u32,
-        processor: u32,
-        word: u32,
-    ) -> Result<Plan<u64>, DeviceFault>
+    fn interrupt(&self, number: u8, processors: u32, processor: u32, word: u32) -> Decision
         ensures { result ≡ interrupt number (view D.Device.state self.now) processors processor word }
     {
         if processor >= processors {
@@ -96,13 +93,7 @@ impl<D: Device> Bridge<D> {
         Ok(self.numbering(self.clock.into(), Deed::Interrupt(message)))
     }
 
-    fn request(
-        &self,
-        number: u8,
-        kind: Kind,
-        block: u32,
-        words: Words,
-    ) -> Result<Plan<u64>, DeviceFault>
+    fn request(&self, number: u8, kind: Kind, block: u32, words: Words) -> Decision
         ensures { result ≡ request number (view D.Device.state self.now) kind block words }
     {
         let home = Block::new(block)
@@ -116,7 +107,7 @@ impl<D: Device> Bridge<D> {
     }
 
     /// What it will do about the device's wish, or why it may not.
-    pub fn act(&self, number: u8, processors: u32) -> Result<Plan<u64>, DeviceFault>
+    pub fn act(&self, number: u8, processors: u32) -> Decision
         ensures { result ≡ act_plan D.Device.meaning number processors (view D.Device.state self.now) }
     {
         let device = u32::from(number);

@@ -3,7 +3,7 @@
 ghost use Rattle.std.specs.Prelude.{◌≡◌};
 ghost use Rattle.bridge.specs.Faults.{fault_number, fault_place};
 
-#[derive(Clone, Copy)]
+#[derive(Clone, Copy, Debug, PartialEq, Eq)]
 pub enum DeviceFault {
     /// The device wishes for nothing.
     NoWish(u32),
@@ -14,6 +14,7 @@ pub enum DeviceFault {
 }
 
 impl DeviceFault {
+    /// The number by which it is told, from 11 to 13.
     pub fn number(self) -> u32
         ensures { result ≡ fault_number self }
     {
@@ -24,6 +25,7 @@ impl DeviceFault {
         }
     }
 
+    /// The device's number.
     pub fn place(self) -> u32
         ensures { result ≡ fault_place self }
     {

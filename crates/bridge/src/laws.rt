@@ -1,6 +1,8 @@
 //! What holds of every reaction of a bridge, whatever its state, its device and what came.
 
-ghost use Rattle.bridge.specs.Laws.{ClocksGoOn, EntriesAreStamped, OnlyStoresWrite, ValuesAreEntered, RefusedRequestsGoOutAgain, RequestsAreForBlocks, InterruptsWait, WishesAreJudged, BridgesKeepToTheirPart, PlansAreKept, BridgesWriteAsAsked};
+ghost use Rattle.bridge.specs.Laws.{ClocksGoOn, EntriesAreStamped, OnlyStoresWrite, ValuesAreEntered};
+ghost use Rattle.bridge.specs.Laws.{RefusedRequestsGoOutAgain, RequestsAreForBlocks, InterruptsWait, WishesAreJudged};
+ghost use Rattle.bridge.specs.Laws.{BridgesKeepToTheirPart, PlansAreKept, BridgesWriteAsAsked};
 
 use device::meaning::Device;
 

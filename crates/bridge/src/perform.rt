@@ -2,7 +2,8 @@
 
 ghost use Rattle.std.specs.Prelude.{◌≡◌, slice_index};
 ghost use Rattle.device.specs.Meaning.{read_exit};
-ghost use Rattle.bridge.specs.Deeds.{access_entry, outcome_of, loaded, stored, accepted, answered, written, ended, performed};
+ghost use Rattle.bridge.specs.Deeds.{access_entry, outcome_of, loaded, stored, accepted, answered, written, ended};
+ghost use Rattle.bridge.specs.Deeds.{performed};
 ghost use Rattle.bridge.specs.States.{view};
 
 use crate::plan::{Deed, Plan, WordAccess};

@@ -9,15 +9,15 @@ use ordering::operation::Words;
 
 // The party is a node's number, as in an entry.
 /// An operation at one of the device's words: who asked for it, its number there, and the word.
-#[derive(Clone, Copy)]
+#[derive(Clone, Copy, Debug, PartialEq, Eq)]
 pub struct WordAccess {
     pub party: u32,
     pub sequence: u32,
     pub place: u32,
 }
 
-/// The first four are wishes of the device, the others answer a message.
-#[derive(Clone, Copy)]
+/// What is done to the device, sent and entered: the first four are wishes of the device, the others answer a message.
+#[derive(Clone, Copy, Debug, PartialEq, Eq)]
 pub enum Deed {
     /// Its own LDio.
     Load(WordAccess),
@@ -61,7 +61,8 @@ impl Deed {
     }
 }
 
-#[derive(Clone, Copy)]
+/// `N` is the width of its numbers: 64 bits as decided, where one may stand past its end, and 32 once they are within.
+#[derive(Clone, Copy, Debug, PartialEq, Eq)]
 pub struct Plan<N = u32> {
     pub clock: Clock<N>,
     pub sequence: N,

@@ -3,8 +3,7 @@
 ghost use Rattle.std.specs.Prelude.{◌≡◌};
 ghost use Rattle.bridge.specs.States.{made};
 
-use message::requests::Requests;
-use message::table::Table;
+use message::table::{Requests, Table};
 use ordering::clock::Clock;
 
 #[derive(Drop)]

@@ -85,23 +85,9 @@ module _ {S : Type 0} (m : Meaning S) where
           both_ways (carries n q y) (subst (λ (z : Message ℕ). carries n q z ≡ false) same (taken_idle n q (device_node d) x.sender x.place)) carried
 
       go : (k : Kind) → x.kind ≡ k → known m d b (receive_kind k m d b x) ≡ Some r → AsCame x r
-      go kind.Gets e is = never cc
-      go kind.Getx e is = never cc
-      go kind.Upg e is = never cc
-      go kind.Wb e is = never cc
-      go kind.Rblk e is = never cc
-      go kind.Wblk e is = never cc
       go kind.Rio e is = record { entry = λ y does. rw (e, to) (grind (arith, nat_tests)); sent = λ y posts n q carried. grind (arith, nat_tests) }
       go kind.Wio e is = record { entry = λ y does. rw (e, to) (grind (arith, nat_tests)); sent = λ y posts n q carried. grind (arith, nat_tests) }
-      go kind.Int e is = never cc
-      go kind.Inv e is = never cc
-      go kind.Down e is = never cc
-      go kind.Ack e is = never cc
-      go kind.SData e is = never cc
-      go kind.XData e is = never cc
-      go kind.Grant e is = never cc
       go kind.Done e is = record { entry = λ y does. grind (arith, nat_tests); sent = λ y posts n q carried. absurd (ends y (done_sends b d x r is) posts n q carried) }
       go kind.Words e is = record { entry = λ y does. grind (arith, nat_tests); sent = λ y posts n q carried. absurd (ends y (words_send b d x r is) posts n q carried) }
-      go kind.Value e is = never cc
       go kind.Nack e is = nacked x.refused e refl is
-      go kind.Taken e is = never cc
+      go _ e is = never cc

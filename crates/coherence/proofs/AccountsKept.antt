@@ -38,7 +38,7 @@ use Rattle.coherence.proofs.Stepping.{after}
 use Rattle.coherence.proofs.Timing.{came_so}
 use Rattle.coherence.specs.Histories.{Issued, issues, wish_access}
 use Rattle.coherence.specs.Promise.{Stands}
-use Rattle.coherence.specs.Steps.{Effect, figures, by_processor, by_home, by_first, by_second, waiting}
+use Rattle.coherence.specs.Steps.{Effect, bridge_within, figures, by, by_processor, by_home, by_first, by_second, waiting}
 use Rattle.coherence.specs.Worlds.{World, processor_at, home_at, with_processor, with_first, with_second, no_home}
 use Rattle.coherence.specs.declared.call.Call.{Call}
 use Rattle.coherence.specs.declared.call.Call.TheVariants.{Act}
@@ -177,79 +177,77 @@ module _ {A B : Type 0} (ma : Meaning A) (mb : Meaning B) (w : World A B) where
       wish_onward : b.sequence ≤ r.next.sequence
       wish_onward = let one = bridges.wishes_take_number m b d (bridge.Act ps) r h refl in omega arith
 
-    at_first : (ps : ℕ) (r : Reaction (Bridge A ℕ)) → bridge.reaction ma 0 w.first (bridge.Act ps) ≡ Some r → Adds issued (issues ma mb (Act 0) w) w (by_first w r)
-    at_first ps r h =
-        let b = w.first in
-        let o = issues ma mb (Act 0) w in
-        let so = wished_so ma b 0 ps r h in
-        let one = bridge_posts ma b 0 (bridge.Act ps) r h in
-        let known = wish_known ma b 0 o refl ps r h in
-        record {
-          entry = wish_entry ma b 0 (Known issued o w (by_first w r)) r one so.0 so.2 known;
-          sends = wish_sends ma b 0 (Known issued o w (by_first w r)) r one so.0 so.2 known;
-          homes = homes_still issued o w (by_first w r) t;
-          onward = first_onward w r.next (wish_onward ma b 0 o refl ps r h);
-          takes = wish_takes ma b 0 o refl ps r h (with_first w r.next) refl refl;
-        }
+    -- Device d's bridge, and the world with its next state.
+    record Bridged {S : Type 0} (d : ℕ) (b next : Bridge S ℕ) (v : World A B) : Type 0 where
+      homes : v.homes ≡ w.homes
+      onward : b.sequence ≤ next.sequence → (n : ℕ) → next_number w n ≤ next_number v n
+      old : next_number w (device_node d) ≡ b.sequence
+      new : next_number v (device_node d) ≡ next.sequence
 
-    at_second : (ps : ℕ) (r : Reaction (Bridge B ℕ)) → bridge.reaction mb 1 w.second (bridge.Act ps) ≡ Some r → Adds issued (issues ma mb (Act 1) w) w (by_second w r)
-    at_second ps r h =
-        let b = w.second in
-        let o = issues ma mb (Act 1) w in
-        let so = wished_so mb b 1 ps r h in
-        let one = bridge_posts mb b 1 (bridge.Act ps) r h in
-        let known = wish_known mb b 1 o refl ps r h in
-        record {
-          entry = wish_entry mb b 1 (Known issued o w (by_second w r)) r one so.0 so.2 known;
-          sends = wish_sends mb b 1 (Known issued o w (by_second w r)) r one so.0 so.2 known;
-          homes = homes_still issued o w (by_second w r) t;
-          onward = second_onward w r.next (wish_onward mb b 1 o refl ps r h);
-          takes = wish_takes mb b 1 o refl ps r h (with_second w r.next) refl refl;
-        }
+    first_bridged : (x : Bridge A ℕ) → Bridged 0 w.first x (with_first w x)
+    first_bridged x = record { homes = refl; onward = first_onward w x; old = refl; new = refl }
 
-    to_first_known : (c : Call) (m : Message ℕ) (r : Reaction (Bridge A ℕ)) → Goes ma mb w c m (device_node 0) → bridge.reaction ma 0 w.first (bridge.Receive m) ≡ Some r
-        → Adds issued (issues ma mb c w) w (by_first w r)
-    to_first_known c m r goes h =
-        let b = w.first in
-        let o = issues ma mb c w in
-        let so = as_came ma b 0 m r h goes.receiver (refuses_requests (figures ma mb w) m goes.well) in
-        let one = bridge_posts ma b 0 (bridge.Receive m) r h in
-        let known = message_still issued o w (by_first w r) m (came_known c m (device_node 0) goes) in
-        record {
-          entry = came_entry ma b 0 (Known issued o w (by_first w r)) r one m so known;
-          sends = came_sends ma b 0 (Known issued o w (by_first w r)) r one m so known;
-          homes = homes_still issued o w (by_first w r) t;
-          onward = first_onward w r.next (let same = bridges.messages_keep_number ma b 0 (bridge.Receive m) r h m refl in omega arith);
-          takes = λ x is. absurd (none_issued o (delivery_issues ma mb w c m (device_node 0) goes) x is);
-        }
+    second_bridged : (x : Bridge B ℕ) → Bridged 1 w.second x (with_second w x)
+    second_bridged x = record { homes = refl; onward = second_onward w x; old = refl; new = refl }
 
-    to_second_known : (c : Call) (m : Message ℕ) (r : Reaction (Bridge B ℕ)) → Goes ma mb w c m (device_node 1) → bridge.reaction mb 1 w.second (bridge.Receive m) ≡ Some r
-        → Adds issued (issues ma mb c w) w (by_second w r)
-    to_second_known c m r goes h =
-        let b = w.second in
-        let o = issues ma mb c w in
-        let so = as_came mb b 1 m r h goes.receiver (refuses_requests (figures ma mb w) m goes.well) in
-        let one = bridge_posts mb b 1 (bridge.Receive m) r h in
-        let known = message_still issued o w (by_second w r) m (came_known c m (device_node 1) goes) in
-        record {
-          entry = came_entry mb b 1 (Known issued o w (by_second w r)) r one m so known;
-          sends = came_sends mb b 1 (Known issued o w (by_second w r)) r one m so known;
-          homes = homes_still issued o w (by_second w r) t;
-          onward = second_onward w r.next (let same = bridges.messages_keep_number mb b 1 (bridge.Receive m) r h m refl in omega arith);
-          takes = λ x is. absurd (none_issued o (delivery_issues ma mb w c m (device_node 1) goes) x is);
-        }
+    module _ {S : Type 0} (m : Meaning S) (b : Bridge S ℕ) (d : ℕ) (put : Bridge S ℕ → World A B)
+        (bridged : (x : Bridge S ℕ) → Bridged d b x (put x)) (r : Reaction (Bridge S ℕ)) where
+      abbrev e : Effect A B
+      e = by (device_node d) bridge_within put r
+
+      homes_known : (o : Option Issued) (j : ℕ) → j < 16 → HomeKnown (Known issued o w e) j (home_at (put r.next) j)
+      homes_known o j low =
+          subst (λ (hs : List (Home ℕ)). HomeKnown (Known issued o w e) j (get_or hs j no_home))
+          (sym (bridged r.next).homes) (homes_still issued o w e t j low)
+
+      at_wish : (o : Option Issued)
+          → o ≡ option_map (λ h. issued_as (device_node d) b.sequence (wish_access d h)) (m.wish b.device)
+          → (ps : ℕ) → bridge.reaction m d b (bridge.Act ps) ≡ Some r → Adds issued o w e
+      at_wish o own ps h =
+          let so = wished_so m b d ps r h in
+          let one = bridge_posts m b d (bridge.Act ps) r h in
+          let known = wish_known m b d o own ps r h in
+          record {
+            entry = wish_entry m b d (Known issued o w e) r one so.0 so.2 known;
+            sends = wish_sends m b d (Known issued o w e) r one so.0 so.2 known;
+            homes = homes_known o;
+            onward = (bridged r.next).onward (wish_onward m b d o own ps r h);
+            takes = wish_takes m b d o own ps r h (put r.next) (bridged r.next).old (bridged r.next).new;
+          }
+
+      at_receipt : (c : Call) (x : Message ℕ) → Goes ma mb w c x (device_node d)
+          → bridge.reaction m d b (bridge.Receive x) ≡ Some r → Adds issued (issues ma mb c w) w e
+      at_receipt c x goes h =
+          let o = issues ma mb c w in
+          let so = as_came m b d x r h goes.receiver (refuses_requests (figures ma mb w) x goes.well) in
+          let one = bridge_posts m b d (bridge.Receive x) r h in
+          let known = message_still issued o w e x (came_known c x (device_node d) goes) in
+          let same = bridges.messages_keep_number m b d (bridge.Receive x) r h x refl in
+          record {
+            entry = came_entry m b d (Known issued o w e) r one x so known;
+            sends = came_sends m b d (Known issued o w e) r one x so known;
+            homes = homes_known o;
+            onward = (bridged r.next).onward (omega arith);
+            takes = λ y is. absurd (none_issued o (delivery_issues ma mb w c x (device_node d) goes) y is);
+          }
 
     -- what every effect adds is accounted for
     pub effect_adds : (c : Call) (e : Effect A B) → Meets ma mb w c e → Adds issued (issues ma mb c w) w e
     effect_adds c e (at_call p small i r asks own ok rest h is) = subst (Adds issued (issues ma mb c w) w) (sym is) (at_processor_call p (omega arith) r c i asks own h)
     effect_adds c e (at_first_wish r call h is) =
-        subst (Adds issued (issues ma mb c w) w) (sym is) (subst (λ (x : Call). Adds issued (issues ma mb x w) w (by_first w r)) (sym call) (at_first w.count r h))
+        subst (Adds issued (issues ma mb c w) w) (sym is)
+        (subst (λ (x : Call). Adds issued (issues ma mb x w) w (by_first w r)) (sym call)
+        (at_wish ma w.first 0 (with_first w) first_bridged r (issues ma mb (Act 0) w) refl w.count h))
     effect_adds c e (at_second_wish r call h is) =
-        subst (Adds issued (issues ma mb c w) w) (sym is) (subst (λ (x : Call). Adds issued (issues ma mb x w) w (by_second w r)) (sym call) (at_second w.count r h))
+        subst (Adds issued (issues ma mb c w) w) (sym is)
+        (subst (λ (x : Call). Adds issued (issues ma mb x w) w (by_second w r)) (sym call)
+        (at_wish mb w.second 1 (with_second w) second_bridged r (issues ma mb (Act 1) w) refl w.count h))
     effect_adds c e (to_processor p small m r goes h is) = subst (Adds issued (issues ma mb c w) w) (sym is) (at_processor_message p (omega arith) r c m goes h)
     effect_adds c e (to_home b small m r goes h is) = subst (Adds issued (issues ma mb c w) w) (sym is) (at_home c b small m r goes h)
-    effect_adds c e (to_first m r goes h is) = subst (Adds issued (issues ma mb c w) w) (sym is) (to_first_known c m r goes h)
-    effect_adds c e (to_second m r goes h is) = subst (Adds issued (issues ma mb c w) w) (sym is) (to_second_known c m r goes h)
+    effect_adds c e (to_first m r goes h is) =
+        subst (Adds issued (issues ma mb c w) w) (sym is) (at_receipt ma w.first 0 (with_first w) first_bridged r c m goes h)
+    effect_adds c e (to_second m r goes h is) =
+        subst (Adds issued (issues ma mb c w) w) (sym is) (at_receipt mb w.second 1 (with_second w) second_bridged r c m goes h)
 
     -- what goes on waiting waited before
     pub still_known : (c : Call) (e : Effect A B) → Meets ma mb w c e → All (MessageKnown (Stands issued)) (waiting ma mb c w)

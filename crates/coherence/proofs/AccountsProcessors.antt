@@ -6,7 +6,7 @@ use Rattle.message.specs.declared.kind.Kind.TheVariants as kind
 use Rattle.message.specs.declared.message.Message.{Message}
 use Rattle.ordering.specs.declared.operation.Operation.TheVariants as operation
 use Rattle.ordering.specs.declared.order.Access.{Access}
-use Rattle.processor.specs.Inputs.{Input, message_of, Load, Store, Request, Ldio, Stio, Collect, GiveUp, Poll, Receive}
+use Rattle.processor.specs.Inputs.{Input, message_of, Load, Store, Request, Ldio, Stio, Receive}
 use Rattle.processor.specs.Laws.{EachReaction}
 use Rattle.processor.specs.Lines.{line_at}
 use Rattle.std.proofs.lemmas.Bool.Decides.{nat_tests}
@@ -25,13 +25,9 @@ entry_issue e = issued_as e.party e.sequence (entry_access e)
 abbrev pub own_access : Input → Option Access
 own_access (Load w) = Some (access operation.Ld 0 w)
 own_access (Store w v) = Some (access operation.St 0 w)
-own_access (Request b k) = None
 own_access (Ldio d w) = Some (access operation.LdIo (1 + d) w)
 own_access (Stio d w v) = Some (access operation.StIo (1 + d) w)
-own_access (Collect d) = None
-own_access (GiveUp d) = None
-own_access Poll = None
-own_access (Receive m) = None
+own_access _ = None
 
 pub call_enters : EachReaction (λ s p i r. message_of i ≡ None → (e : Entry) → r.entry ≡ Some e → (own_access i ≡ Some (entry_access e)) × (e.party ≡ p) × (e.sequence ≡ s.sequence))
 call_enters s p i r h call e is = grind (arith, nat_tests)
@@ -42,17 +38,11 @@ not_posted f o x none is passes = grind (arith, nat_tests)
 
 pub call_posts : EachReaction (λ s p i r. message_of i ≡ None → (m : Message ℕ) → posted r.sent ≡ Some m → (n q : ℕ) → carries n q m ≡ true
     → (own_access i ≡ Some (carried_access m)) × (n ≡ p) × (q ≡ s.sequence))
-call_posts s p (Load w) r h call m is n q carried = grind (arith, nat_tests)
-call_posts s p (Store w v) r h call m is n q carried = grind (arith, nat_tests)
 call_posts s p (Request b k) r h call m is n q carried =
     let none = request_posts (carries n q) s p b k r h (λ fit. asks_only (line_at s.lines b) k fit n q p (home_node b) b) in
     absurd (not_posted (carries n q) (posted r.sent) m none is carried)
-call_posts s p (Ldio d w) r h call m is n q carried = grind (arith, nat_tests)
-call_posts s p (Stio d w v) r h call m is n q carried = grind (arith, nat_tests)
-call_posts s p (Collect d) r h call m is n q carried = grind (arith, nat_tests)
-call_posts s p (GiveUp d) r h call m is n q carried = grind (arith, nat_tests)
-call_posts s p Poll r h call m is n q carried = grind (arith, nat_tests)
 call_posts s p (Receive x) r h call m is n q carried = never cc
+call_posts s p _ r h call m is n q carried = grind (arith, nat_tests)
 
 pub call_takes : EachReaction (λ s p i r. message_of i ≡ None → (a : Access) → own_access i ≡ Some a → r.next.sequence ≡ s.sequence + 1)
 call_takes s p i r h call a is = grind (arith, nat_tests)

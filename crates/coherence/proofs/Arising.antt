@@ -1,18 +1,14 @@
 -- How an effect arises: one node reacts, to a call or to a message.
-use Rattle.std.proofs.Common.{◌≡◌, ℕ, ◌<◌, Bool, true, false, cond, ltb, Some, None, Ok, Err, Option, Result, sym, refl, arith}
+use Rattle.std.proofs.Common.{◌≡◌, ℕ, ◌<◌, Bool, true, false, cond, Some, None, Ok, Err, Option, Result, sym, refl, arith}
 use Rattle.bridge.specs.Inputs as bridge
-use Rattle.bridge.specs.Reactions as bridge_reactions
 use Rattle.bridge.specs.declared.fault.DeviceFault.{DeviceFault}
 use Rattle.bridge.specs.declared.state.Bridge.{Bridge}
 use Rattle.device.specs.Meaning.{Meaning}
 use Rattle.home.specs.Reactions as home
 use Rattle.home.specs.declared.machine.Home.{Home}
 use Rattle.message.specs.declared.message.Message.{Message}
-use Rattle.message.specs.declared.node.Node.{Node}
-use Rattle.message.specs.declared.node.Node.TheVariants as node
 use Rattle.message.specs.declared.reaction.Reaction.{Reaction}
 use Rattle.processor.specs.Inputs as processor
-use Rattle.processor.specs.Receive as receipt
 use Rattle.processor.specs.declared.state.Processor.{Processor}
 use Rattle.std.specs.Option.{option_map}
 use Rattle.coherence.specs.Steps.{Effect, check, by_processor, by_home, by_first, by_second, wished}
@@ -42,19 +38,6 @@ module _ {A B : Type 0} (ma : Meaning A) (mb : Meaning B) (w : World A B) where
     at_home : (b : ℕ) → b < 16 → (m : Message ℕ) (r : Reaction (Home ℕ)) → home.received (home_at w b) b m ≡ Some r → e ≡ by_home w b r → Arises e
     at_first : (i : bridge.Input) (r : Reaction (Bridge A ℕ)) → bridge.reaction ma 0 w.first i ≡ Some r → e ≡ by_first w r → Arises e
     at_second : (i : bridge.Input) (r : Reaction (Bridge B ℕ)) → bridge.reaction mb 1 w.second i ≡ Some r → e ≡ by_second w r → Arises e
-
-  -- what a message does at the node that it goes to
-  abbrev pub reacted : Message ℕ → Option Node → Option (Effect A B)
-  reacted m n =
-      elim n [
-        | None ↦ None
-        | Some (node.Processor p) ↦ option_map (by_processor w p) (receipt.receive (processor_at w p) p m)
-        | Some (node.Device d) ↦
-            cond (ltb d 1)
-            (option_map (by_first w) (bridge_reactions.receive ma 0 w.first m))
-            (option_map (by_second w) (bridge_reactions.receive mb 1 w.second m))
-        | Some (node.Home b) ↦ option_map (by_home w b) (home.received (home_at w b) b m)
-      ]
 
   pub from_wish : {S : Type 0} (e : Effect A B) (by : Reaction (Bridge S ℕ) → Effect A B) (x : Result (Reaction (Bridge S ℕ)) DeviceFault) → wished by x ≡ Ok e
       → (r : Reaction (Bridge S ℕ)) × (x ≡ Ok r) × (e ≡ by r)

@@ -74,7 +74,13 @@ module _ {A B : Type 0} (ma : Meaning A) (mb : Meaning B) (w : World A B) (m : M
   at_processor small ruled = rw (well, processor_numbered m.receiver small) (mapped_some (by_processor w m.receiver) (processor.receive (processor_at w m.receiver) m.receiver m) ruled)
 
   pub at_first : m.receiver ≡ 4 → is_some (bridge_messages.receive_plan ma 0 w.first m) ≡ true → is_some (delivered ma mb w m) ≡ true
-  at_first to ruled = rw (well, to) (mapped_some (by_first w) (bridge.receive ma 0 w.first m) (bridge_some ma 0 w.first m ruled))
+  at_first to ruled =
+      let numbered : node_numbered m.receiver ≡ Some (node.Device 0) = ap node_numbered to in
+      rw (well, numbered)
+      (mapped_some (by_first w) (bridge.receive ma 0 w.first m) (bridge_some ma 0 w.first m ruled))
 
   pub at_second : m.receiver ≡ 5 → is_some (bridge_messages.receive_plan mb 1 w.second m) ≡ true → is_some (delivered ma mb w m) ≡ true
-  at_second to ruled = rw (well, to) (mapped_some (by_second w) (bridge.receive mb 1 w.second m) (bridge_some mb 1 w.second m ruled))
+  at_second to ruled =
+      let numbered : node_numbered m.receiver ≡ Some (node.Device 1) = ap node_numbered to in
+      rw (well, numbered)
+      (mapped_some (by_second w) (bridge.receive mb 1 w.second m) (bridge_some mb 1 w.second m ruled))

@@ -20,7 +20,6 @@ use Rattle.message.specs.declared.kind.Kind.TheVariants as kind
 use Rattle.message.specs.declared.message.Message.{Message}
 use Rattle.message.specs.declared.reaction.Reaction.{Reaction}
 use Rattle.ordering.specs.declared.operation.Operation.{Operation}
-use Rattle.ordering.specs.declared.operation.Operation.TheVariants.{Ld, St, LdIo, StIo, Int, LdBlk, StBlk}
 use Rattle.std.proofs.lemmas.Bool.Decides.{nat_tests}
 use Rattle.coherence.proofs.Arising.{never}
 use Rattle.coherence.proofs.Carrying.{carries, done_as, is_block_request, refuses_block}
@@ -46,13 +45,7 @@ module _ {S : Type 0} (m : Meaning S) where
 
   wish_number : (o : Operation) (b : Bridge S ℕ) (d ps : ℕ) (h : Wish) (r : Reaction (Bridge S ℕ)) → decided d b (act_on o m d ps b h) ≡ Some r → (n q : ℕ)
       → Counts n q (eqb (device_node d) n && eqb b.sequence q) r
-  wish_number Ld b d ps h r is n q = grind (arith, nat_tests)
-  wish_number St b d ps h r is n q = grind (arith, nat_tests)
-  wish_number LdIo b d ps h r is n q = grind (arith, nat_tests)
-  wish_number StIo b d ps h r is n q = grind (arith, nat_tests)
-  wish_number Int b d ps h r is n q = grind (arith, nat_tests)
-  wish_number LdBlk b d ps h r is n q = grind (arith, nat_tests)
-  wish_number StBlk b d ps h r is n q = grind (arith, nat_tests)
+  wish_number o b d ps h r is n q = grind (arith, nat_tests)
 
   pub wishes_number : (b : Bridge S ℕ) (d ps : ℕ) (r : Reaction (Bridge S ℕ)) → reaction m d b (Act ps) ≡ Some r → (n q : ℕ) → Counts n q (eqb (device_node d) n && eqb b.sequence q) r
   wishes_number b d ps r is n q = go (m.wish b.device) is
@@ -92,26 +85,12 @@ module _ {S : Type 0} (m : Meaning S) where
   messages_number b d x r is to refuses n q = go x.kind refl is
     where
       go : (k : Kind) → x.kind ≡ k → known d b (receive_kind k m d b x) ≡ Some r → Counts n q (carries n q x) r
-      go kind.Gets e is = never cc
-      go kind.Getx e is = never cc
-      go kind.Upg e is = never cc
-      go kind.Wb e is = never cc
-      go kind.Rblk e is = never cc
-      go kind.Wblk e is = never cc
       go kind.Rio e is = rw e (grind (arith, nat_tests))
       go kind.Wio e is = rw e (grind (arith, nat_tests))
-      go kind.Int e is = never cc
-      go kind.Inv e is = never cc
-      go kind.Down e is = never cc
-      go kind.Ack e is = never cc
-      go kind.SData e is = never cc
-      go kind.XData e is = never cc
-      go kind.Grant e is = never cc
       go kind.Done e is = rw e (grind (arith, nat_tests))
       go kind.Words e is = rw e (grind (arith, nat_tests))
-      go kind.Value e is = never cc
       go kind.Nack e is = rw e (back_number b d x r to refuses is n q)
-      go kind.Taken e is = never cc
+      go _ e is = never cc
 
   pub messages_keep_number : EachReaction m (λ b d i r. (x : Message ℕ) → message_of i ≡ Some x → r.next.sequence ≡ b.sequence)
   messages_keep_number b d i r h x is = grind (arith, nat_tests)

@@ -6,7 +6,7 @@ use Rattle.message.specs.Nodes.{home_node}
 use Rattle.message.specs.declared.kind.Kind.{Kind}
 use Rattle.message.specs.declared.message.Message.{Message}
 use Rattle.message.specs.declared.reaction.Reaction.{Reaction}
-use Rattle.processor.specs.Inputs.{reaction, message_of, Load, Store, Request, Ldio, Stio, Collect, GiveUp, Poll, Receive}
+use Rattle.processor.specs.Inputs.{reaction, message_of, Request}
 use Rattle.processor.specs.Laws.{EachReaction}
 use Rattle.processor.specs.Calls.{fits}
 use Rattle.processor.specs.Lines.{line_at}
@@ -34,18 +34,11 @@ request_does s p b k r h = (grind (arith, nat_tests), grind (arith, nat_tests))
 
 pub calls_number : EachReaction (λ s p i r. message_of i ≡ None → (n q : ℕ)
     → (hit (done_as n q) r.entry + hit (carries n q) (posted r.sent)) + indicator (eqb p n && ltb q s.sequence) ≡ indicator (eqb p n && ltb q r.next.sequence))
-calls_number s p (Load w) r h call n q = grind (arith, nat_tests, number_taken)
-calls_number s p (Store w v) r h call n q = grind (arith, nat_tests, number_taken)
 calls_number s p (Request b k) r h call n q =
     let none = request_posts (carries n q) s p b k r h (λ fit. asks_only (line_at s.lines b) k fit n q p (home_node b) b) in
     let x = request_does s p b k r h in
     rw (x.0, x.1) (omega arith)
-calls_number s p (Ldio d w) r h call n q = grind (arith, nat_tests, number_taken)
-calls_number s p (Stio d w v) r h call n q = grind (arith, nat_tests, number_taken)
-calls_number s p (Collect d) r h call n q = grind (arith, nat_tests)
-calls_number s p (GiveUp d) r h call n q = grind (arith, nat_tests)
-calls_number s p Poll r h call n q = grind (arith, nat_tests)
-calls_number s p (Receive m) r h call n q = grind (arith, nat_tests)
+calls_number s p _ r h call n q = grind (arith, nat_tests, number_taken)
 
 -- at a message
 pub sends_no_operation : EachReaction (λ s p i r. (m : Message ℕ) → message_of i ≡ Some m → (n q : ℕ) → hit (carries n q) (posted r.sent) ≡ 0)

@@ -11,7 +11,7 @@ use Rattle.std.proofs.lemmas.List.{append-nil}
 use Rattle.std.proofs.lemmas.Bool.{eqb-false}
 use Rattle.std.specs.Option.{option_to_list}
 use Rattle.trail.specs.declared.entry.Entry.{Entry}
-use Rattle.coherence.proofs.Adding.{grown, last_entry}
+use Rattle.coherence.proofs.Adding.{Enters, enters, finish, grown, last_entry, load, nothing, store}
 use Rattle.coherence.proofs.Blocks.{Block, pending, posted_gone}
 use Rattle.coherence.proofs.Bounds.{Bounds, Fresh, bound}
 use Rattle.coherence.proofs.BoundsCopies as copies
@@ -131,28 +131,18 @@ module _ (b : ℕ) (x y : Block) (t : Tokens x) (bounds : Bounds x) where
     same_entry f is = last_entry x.trail f e (sym is ∙ added)
 
     pub fresh_moved : Moves b x y → Fresh x.trail e
-    fresh_moved (rests r) = not_still r.trail
-    fresh_moved (loads p w ws f r) = subst (Fresh x.trail) (same_entry f r.trail) (loads_fresh b x y t bounds p w ws f r)
-    fresh_moved (stores p w v ws f r) = subst (Fresh x.trail) (same_entry f r.trail) (stores_fresh b x y t bounds p w v ws f r)
-    fresh_moved (requests n k m r) = not_still r.trail
-    fresh_moved (invalidates_shared p ws m a r) = not_still r.trail
-    fresh_moved (invalidates_owned p ws m a r) = not_still r.trail
-    fresh_moved (downgrades p ws m a r) = not_still r.trail
-    fresh_moved (shares p m small r) = not_still r.trail
-    fresh_moved (owns p m small r) = not_still r.trail
-    fresh_moved (betters p ws m small r) = not_still r.trail
-    fresh_moved (gives_back p m small r) = not_still r.trail
-    fresh_moved (lands n m device r) = not_still r.trail
-    fresh_moved (stored n m device r) = not_still r.trail
-    fresh_moved (nacked p k m is r) = not_still r.trail
-    fresh_moved (again n k m a is r) = not_still r.trail
-    fresh_moved (refuses n k m a is r) = not_still r.trail
-    fresh_moved (asks_holders m t' s r) = not_still r.trail
-    fresh_moved (hears m r) = not_still r.trail
-    fresh_moved (frees n m r) = not_still r.trail
-    fresh_moved (finishes r) = go (finished x.home b).entry refl
+    fresh_moved move = by (enters b x y move)
       where
-        go : (o : Option Entry) → (finished x.home b).entry ≡ o → Fresh x.trail e
-        go None is = not_still (r.trail ∙ ap (λ (f : Option Entry). x.trail ++ option_to_list f) is ∙ append-nil x.trail)
-        go (Some f) is =
-            subst (Fresh x.trail) (same_entry f (r.trail ∙ ap (λ (g : Option Entry). x.trail ++ option_to_list g) is)) (finishes_fresh b x y t bounds r f is)
+        by : Enters b x y → Fresh x.trail e
+        by (nothing same) = not_still same
+        by (load p w ws f r) = subst (Fresh x.trail) (same_entry f r.trail) (loads_fresh b x y t bounds p w ws f r)
+        by (store p w v ws f r) =
+            subst (Fresh x.trail) (same_entry f r.trail) (stores_fresh b x y t bounds p w v ws f r)
+        by (finish r) = go (finished x.home b).entry refl
+          where
+            go : (o : Option Entry) → (finished x.home b).entry ≡ o → Fresh x.trail e
+            go None is =
+                not_still (r.trail ∙ ap (λ (f : Option Entry). x.trail ++ option_to_list f) is ∙ append-nil x.trail)
+            go (Some f) is =
+                let entered = r.trail ∙ ap (λ (g : Option Entry). x.trail ++ option_to_list g) is in
+                subst (Fresh x.trail) (same_entry f entered) (finishes_fresh b x y t bounds r f is)

@@ -24,7 +24,7 @@ use Rattle.coherence.specs.Promise.{Stands}
 use Rattle.coherence.specs.Steps.{Effect, waiting}
 use Rattle.coherence.specs.Worlds.{World, home_at}
 use Rattle.coherence.specs.declared.call.Call.{Call}
-use Rattle.coherence.specs.declared.call.Call.TheVariants.{Load, Store, Request, LdIo, StIo, Collect, GiveUp, Act, Deliver, Poll}
+use Rattle.coherence.specs.declared.call.Call.TheVariants.{Deliver}
 
 pairs_append : {X : Type 0} (R : X → X → Type 0) (xs ys : List X) → Pairs R xs → Pairs R ys → ((x y : X) → Stands xs x → Stands ys y → R x y) → Pairs R (xs ++ ys)
 pairs_append R [] ys px py across = py
@@ -42,16 +42,8 @@ block_fits n m block small = grind (arith, nat_tests)
 
 module _ {A B : Type 0} (ma : Meaning A) (mb : Meaning B) where
   still_pairs : (c : Call) (w : World A B) → Pairs Follows w.messages → Pairs Follows (waiting ma mb c w)
-  still_pairs (Load p n) w pairs = pairs
-  still_pairs (Store p n v) w pairs = pairs
-  still_pairs (Request p b k) w pairs = pairs
-  still_pairs (LdIo p d n) w pairs = pairs
-  still_pairs (StIo p d n v) w pairs = pairs
-  still_pairs (Collect p d) w pairs = pairs
-  still_pairs (GiveUp p d) w pairs = pairs
-  still_pairs (Act d) w pairs = pairs
   still_pairs (Deliver i) w pairs = pairs_removed Follows w.messages i pairs
-  still_pairs (Poll p) w pairs = pairs
+  still_pairs _ w pairs = pairs
 
   module _ (f : Figures) (c : Call) (h : History A B) (e : Effect A B) (known : Known ma mb f h) (later : Known ma mb f (grown ma mb c h e)) (time : Timely h.world e) (runs : Errands h.world e) (line : InLine h) where
     abbrev w : World A B

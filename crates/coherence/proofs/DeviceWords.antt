@@ -9,7 +9,7 @@ use Rattle.message.specs.declared.message.Message.{Message}
 use Rattle.ordering.specs.Operations.{is, is_write, is_block}
 use Rattle.ordering.specs.Words.{first_word}
 use Rattle.ordering.specs.declared.operation.Operation.{Operation}
-use Rattle.ordering.specs.declared.operation.Operation.TheVariants.{Ld, St, LdIo, StIo, Int, LdBlk, StBlk}
+use Rattle.ordering.specs.declared.operation.Operation.TheVariants.{LdIo, StIo}
 use Rattle.ordering.specs.declared.operation.Words.{Words}
 use Rattle.processor.specs.Laws.{EachReaction}
 use Rattle.std.proofs.lemmas.List.{append-nil, get_or-set_same, get_or-set_other}
@@ -39,17 +39,13 @@ processor_spaces s n i r h e k = grind (arith, nat_tests)
 entered : (o : Operation) (s t p n cur : ℕ) (vs : Words) (ws : List ℕ) → (is LdIo o || is StIo o) ≡ true → t ≡ s → p < length ws → cur ≡ get_or ws n 0
     → cond (is_write o && (eqb t s && eqb (cond (is_block o) (n / 4) n) p)) (get_or vs.at (cond (is_block o) (n % 4) 0) 0) cur
     ≡ get_or (cond (is StIo o) (set ws p (first_word vs)) ws) n 0
-entered Ld s t p n cur vs ws h same small now = absurd (false≢true h)
-entered St s t p n cur vs ws h same small now = absurd (false≢true h)
-entered Int s t p n cur vs ws h same small now = absurd (false≢true h)
-entered LdBlk s t p n cur vs ws h same small now = absurd (false≢true h)
-entered StBlk s t p n cur vs ws h same small now = absurd (false≢true h)
 entered LdIo s t p n cur vs ws h same small now = now
 entered StIo s t p n cur vs ws h same small now = rw (eq-eqb t s same) (go (cases_eq n p))
   where
     go : (n ≡ p) ⊎ (n ≡ p → ⊥) → cond (eqb n p) (first_word vs) cur ≡ get_or (set ws p (first_word vs)) n 0
     go (inl at) = rw (eq-eqb n p at) (sym (ap (λ (i : ℕ). get_or (set ws p (first_word vs)) i 0) at ∙ get_or-set_same ws p (first_word vs) 0 small))
     go (inr apart) = rw (ne_eqb n p apart) (now ∙ sym (get_or-set_other ws p n (first_word vs) 0 apart))
+entered _ s t p n cur vs ws h same small now = absurd (false≢true h)
 
 module _ (start : Address → ℕ) (trail : List Entry) where
   -- what is entered in another space changes nothing here

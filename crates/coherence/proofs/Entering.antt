@@ -38,37 +38,19 @@ covered_block b e a here cover = grind (arith, nat_tests)
 abbrev Small : processor.Input → Type 0
 Small (processor.Load n) = n < 64
 Small (processor.Store n v) = n < 64
-Small (processor.Request b k) = Unit {0}
-Small (processor.Ldio d n) = Unit {0}
-Small (processor.Stio d n v) = Unit {0}
-Small (processor.Collect d) = Unit {0}
-Small (processor.GiveUp d) = Unit {0}
-Small processor.Poll = Unit {0}
-Small (processor.Receive m) = Unit {0}
+Small _ = Unit {0}
 
 own_word : (s : _) (n : ℕ) (i : processor.Input) (r : Reaction _) → processor.reaction s n i ≡ Some r → (e : Entry) → r.entry ≡ Some e → Small i → processor.message_of i ≡ None
     → (e.place < 64) × (is_block e.operation ≡ false)
-own_word s n (processor.Load w) r h e k small own = (grind (arith, nat_tests), grind (arith, nat_tests))
-own_word s n (processor.Store w v) r h e k small own = (grind (arith, nat_tests), grind (arith, nat_tests))
-own_word s n (processor.Request b j) r h e k small own = (grind (arith, nat_tests), grind (arith, nat_tests))
-own_word s n (processor.Ldio d w) r h e k small own = (grind (arith, nat_tests), grind (arith, nat_tests))
-own_word s n (processor.Stio d w v) r h e k small own = (grind (arith, nat_tests), grind (arith, nat_tests))
-own_word s n (processor.Collect d) r h e k small own = (grind (arith, nat_tests), grind (arith, nat_tests))
-own_word s n (processor.GiveUp d) r h e k small own = (grind (arith, nat_tests), grind (arith, nat_tests))
-own_word s n processor.Poll r h e k small own = (grind (arith, nat_tests), grind (arith, nat_tests))
-own_word s n (processor.Receive m) r h e k small own = (grind (arith, nat_tests), grind (arith, nat_tests))
+own_word s n i r h e k small own = (grind (arith, nat_tests), grind (arith, nat_tests))
 
 asked_small : (c : Call) (p : ℕ) (i : processor.Input) → Asks c p i → Small i
 asked_small (call.Load q n) p i asks = subst Small (sym asks.1) asks.2
 asked_small (call.Store q n v) p i asks = subst Small (sym asks.1) asks.2
 asked_small (call.Request q b k) p i asks = subst Small (sym asks.3) tt
-asked_small (call.LdIo q d n) p i asks = subst Small (sym asks.1) tt
-asked_small (call.StIo q d n v) p i asks = subst Small (sym asks.1) tt
-asked_small (call.Collect q d) p i asks = subst Small (sym asks.1) tt
-asked_small (call.GiveUp q d) p i asks = subst Small (sym asks.1) tt
 asked_small (call.Act d) p i asks = absurd asks
 asked_small (call.Deliver n) p i asks = absurd asks
-asked_small (call.Poll q) p i asks = subst Small (sym asks.1) tt
+asked_small _ p i asks = subst Small (sym asks.1) tt
 
 interrupts_only : EachReaction (λ s n i r. (m : Message ℕ) → processor.message_of i ≡ Some m → (e : Entry) → r.entry ≡ Some e → e.space ≡ 3)
 interrupts_only s n i r h m is e k = grind (arith, nat_tests)

@@ -23,7 +23,7 @@ use Rattle.coherence.specs.Histories.{Issued, issues, own, access, is_ldio, wish
 use Rattle.coherence.specs.Steps.{Effect}
 use Rattle.coherence.specs.Worlds.{World, processor_at}
 use Rattle.coherence.specs.declared.call.Call.{Call}
-use Rattle.coherence.specs.declared.call.Call.TheVariants.{Load, Store, Request, LdIo, StIo, Collect, GiveUp, Act, Deliver, Poll}
+use Rattle.coherence.specs.declared.call.Call.TheVariants.{Load, Store, LdIo, StIo, Act, Deliver}
 
 wish_fits : {S : Type 0} (m : Meaning S) (b : Bridge S ℕ) (d ps : ℕ) (r : Reaction (Bridge S ℕ)) → bridge.reaction m d b (bridge.Act ps) ≡ Some r
     → (x : Wish) → m.wish b.device ≡ Some x → device_issues (device_node d) (wish_access d x) ≡ true
@@ -64,7 +64,6 @@ module _ {A B : Type 0} (ma : Meaning A) (mb : Meaning B) (w : World A B) where
   by_call : (c : Call) (p : ℕ) (i : processor.Input) (r : Reaction (Processor ℕ)) → p < 4 → Asks c p i → processor.reaction (processor_at w p) p i ≡ Some r → IssuesWell c
   by_call (Load q n) p i r small asks h = as_issued (Load q n) (own ma mb w q (access operation.Ld 0 n)) refl (fits_own q (omega (arith, asks.0)) (access operation.Ld 0 n) refl) (no_ldio q (access operation.Ld 0 n) refl)
   by_call (Store q n v) p i r small asks h = as_issued (Store q n v) (own ma mb w q (access operation.St 0 n)) refl (fits_own q (omega (arith, asks.0)) (access operation.St 0 n) refl) (no_ldio q (access operation.St 0 n) refl)
-  by_call (Request q b k) p i r small asks h = nothing (Request q b k) refl
   by_call (LdIo q d n) p i r small asks h =
       as_issued (LdIo q d n) (own ma mb w q (access operation.LdIo (1 + d) n)) refl (fits_own q (omega (arith, asks.0)) (access operation.LdIo (1 + d) n) (device_word d asks.2))
       (λ o e low two ldio.
@@ -76,14 +75,11 @@ module _ {A B : Type 0} (ma : Meaning A) (mb : Meaning B) (w : World A B) where
       subst (λ (k : ℕ). slot_at (processor_at w o).slots k ≡ Free) same (subst (λ (k : ℕ). slot_at (processor_at w k).slots d ≡ Free) (asks.0 ∙ from) free))
   by_call (StIo q d n v) p i r small asks h =
       as_issued (StIo q d n v) (own ma mb w q (access operation.StIo (1 + d) n)) refl (fits_own q (omega (arith, asks.0)) (access operation.StIo (1 + d) n) (device_word d asks.2)) (no_ldio q (access operation.StIo (1 + d) n) refl)
-  by_call (Collect q d) p i r small asks h = nothing (Collect q d) refl
-  by_call (GiveUp q d) p i r small asks h = nothing (GiveUp q d) refl
   by_call (Act d) p i r small asks h = nothing_asked asks
     where
       nothing_asked : ⊥ → IssuesWell (Act d)
       nothing_asked x = absurd x
-  by_call (Deliver n) p i r small asks h = nothing (Deliver n) refl
-  by_call (Poll q) p i r small asks h = nothing (Poll q) refl
+  by_call c p i r small asks h = nothing c refl
 
   by_wish : {S : Type 0} (m : Meaning S) (b : Bridge S ℕ) (d : ℕ) (c : Call) (r : Reaction (Bridge S ℕ)) → issues ma mb c w ≡ wished ma mb d b.sequence (m.wish b.device)
       → ((x : Wish) → is_fitting (record { party = device_node d; sequence = b.sequence; access = wish_access d x }) ≡ device_issues (device_node d) (wish_access d x))

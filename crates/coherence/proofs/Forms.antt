@@ -33,7 +33,7 @@ use Rattle.coherence.specs.Makings.{Making, make, block_words}
 use Rattle.coherence.specs.Steps.{Effect, figures, waiting, step}
 use Rattle.coherence.specs.Worlds.{World, processor_at, home_at, no_home}
 use Rattle.coherence.specs.declared.call.Call.{Call}
-use Rattle.coherence.specs.declared.call.Call.TheVariants.{Load, Store, Request, LdIo, StIo, Collect, GiveUp, Act, Deliver, Poll}
+use Rattle.coherence.specs.declared.call.Call.TheVariants.{Deliver}
 
 abbrev pub HomesWell : {A B : Type 0} → Figures → World A B → Type 0
 HomesWell f w = (b : ℕ) → b < 16 → HomeWell f b (home_at w b)
@@ -98,16 +98,8 @@ module _ {A B : Type 0} (ma : Meaning A) (mb : Meaning B) where
 
   -- what still waits is what waited
   still_well : (f : Figures) (c : Call) (w : World A B) → All (Well f) w.messages → All (Well f) (waiting ma mb c w)
-  still_well f (Load p n) w all = all
-  still_well f (Store p n v) w all = all
-  still_well f (Request p b k) w all = all
-  still_well f (LdIo p d n) w all = all
-  still_well f (StIo p d n v) w all = all
-  still_well f (Collect p d) w all = all
-  still_well f (GiveUp p d) w all = all
-  still_well f (Act d) w all = all
   still_well f (Deliver i) w all = All-append (Well f) (take i w.messages) (drop (i + 1) w.messages) (All-take (Well f) i w.messages all) (All-drop (Well f) (i + 1) w.messages all)
-  still_well f (Poll p) w all = all
+  still_well f _ w all = all
 
   -- A world of a board with these figures.
   pub record Formed (f : Figures) (w : World A B) : Type 0 where

@@ -9,7 +9,7 @@ use Rattle.bridge.specs.Plans.{plan_within}
 use Rattle.bridge.specs.Receipts.{asked, asked_access, replied, again, refused, receive_kind}
 use Rattle.bridge.specs.declared.fault.DeviceFault.{DeviceFault}
 use Rattle.bridge.specs.declared.plan.Deed.{Deed}
-use Rattle.bridge.specs.declared.plan.Deed.TheVariants.{Load, Store, Interrupt, Request, Read, Write, Land, Finish, Resend}
+use Rattle.bridge.specs.declared.plan.Deed.TheVariants.{Interrupt, Request, Read, Write, Land, Finish, Resend}
 use Rattle.bridge.specs.declared.plan.Plan.{Plan}
 use Rattle.bridge.specs.declared.state.Bridge.{Bridge}
 use Rattle.device.specs.Meaning.{Meaning}
@@ -43,15 +43,13 @@ Allowed f d (Receive x) = Well f x × (x.receiver ≡ device_node d)
 
 -- What a deed sends is well formed.
 abbrev DeedWell : Figures → ℕ → Deed → Type 0
-DeedWell f d (Load a) = Unit {0}
-DeedWell f d (Store a v) = Unit {0}
 DeedWell f d (Interrupt x) = Well f x
 DeedWell f d (Request x) = Well f x
 DeedWell f d (Read a) = (ltb a.place (word_count f (device_node d)) ≡ true) × (has_processor f a.party ≡ true)
-DeedWell f d (Write a v) = Unit {0}
 DeedWell f d (Land h k ws) = (h ≡ home_node k) × (k < 16)
 DeedWell f d (Finish h k) = (h ≡ home_node k) × (k < 16)
 DeedWell f d (Resend x) = Well f x
+DeedWell f d _ = Unit {0}
 
 abbrev PlanWell : Figures → ℕ → Plan ℕ → Type 0
 PlanWell f d p = plan_within p ≡ true → DeedWell f d p.deed
@@ -126,21 +124,7 @@ module _ {S : Type 0} (m : Meaning S) (f : Figures) (d : ℕ) (device : is_devic
     by_kind kind.Done is = replied_well kind.Wblk (Finish x.sender x.place) (from_home f x form kind.Done is refl)
     by_kind kind.Words is = replied_well kind.Rblk (Land x.sender x.place x.words) (from_home f x form kind.Words is refl)
     by_kind kind.Nack is = refused_well is x.refused refl
-    by_kind kind.Gets is = tt
-    by_kind kind.Getx is = tt
-    by_kind kind.Upg is = tt
-    by_kind kind.Wb is = tt
-    by_kind kind.Rblk is = tt
-    by_kind kind.Wblk is = tt
-    by_kind kind.Int is = tt
-    by_kind kind.Inv is = tt
-    by_kind kind.Down is = tt
-    by_kind kind.Ack is = tt
-    by_kind kind.SData is = tt
-    by_kind kind.XData is = tt
-    by_kind kind.Grant is = tt
-    by_kind kind.Value is = tt
-    by_kind kind.Taken is = tt
+    by_kind _ is = tt
 
   performed_sends : (b : Bridge S ℕ) (p : Plan ℕ) → PlanWell f d p → bridge_within (performed m d b p).next ≡ true → All (Well f) (sent (performed m d b p).sent)
   performed_sends b p well within = grind (arith, nat_tests)

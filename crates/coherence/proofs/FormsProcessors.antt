@@ -1,6 +1,6 @@
 -- What a processor of the board sends is well formed.
-use Rattle.std.proofs.Common.{◌≡◌, ℕ, ◌+◌, ◌<◌, Bool, true, false, ◌&&◌, ◌||◌, ltb, leb, IfSome, Some, None, Option, sym, refl, subst, arith}
-use Rattle.message.specs.Checks.{has_processor, word_count, all_are_zero}
+use Rattle.std.proofs.Common.{◌≡◌, ℕ, ◌+◌, ◌<◌, true, false, ◌&&◌, ltb, leb, IfSome, Some, None, Option, sym, refl, subst, arith}
+use Rattle.message.specs.Checks.{has_processor, word_count}
 use Rattle.message.specs.Forms.{row}
 use Rattle.message.specs.Kinds.{kind_number}
 use Rattle.message.specs.Messages.{plain}
@@ -19,7 +19,7 @@ use Rattle.ordering.specs.Clocks.{number_end}
 use Rattle.ordering.specs.Words.{no_words, one_word, first_word}
 use Rattle.ordering.specs.declared.operation.Words.{Words}
 use Rattle.processor.specs.Calls.{to_device}
-use Rattle.processor.specs.Inputs.{Input, Load, Store, Request, Ldio, Stio, Collect, GiveUp, Poll, Receive, reaction}
+use Rattle.processor.specs.Inputs.{Input, Request, Ldio, Stio, Receive, reaction}
 use Rattle.processor.specs.Lines.{line_at}
 use Rattle.processor.specs.Receive.{Outcome, giving_way, invalidated, downgraded, taking, taking_line, granted, nacked, fetched, fetched_from, receive_kind}
 use Rattle.processor.specs.Slots.{slot_at}
@@ -36,15 +36,10 @@ use Rattle.coherence.proofs.FormsBuilt.{Well, fits_by, home_end, taken_well, fro
 
 -- What may come to a processor: a word that the device has, and messages that are well formed.
 abbrev pub Allowed : Figures → Input → Type 0
-Allowed f (Load w) = Unit {0}
-Allowed f (Store w v) = Unit {0}
-Allowed f (Request b k) = Unit {0}
 Allowed f (Ldio d w) = ltb w (word_count f (device_node d)) ≡ true
 Allowed f (Stio d w v) = ltb w (word_count f (device_node d)) ≡ true
-Allowed f (Collect d) = Unit {0}
-Allowed f (GiveUp d) = Unit {0}
-Allowed f Poll = Unit {0}
 Allowed f (Receive m) = Well f m
+Allowed f _ = Unit {0}
 
 abbrev SendsWell : Figures → Reaction (Processor ℕ) → Type 0
 SendsWell f r = numbers_within r.next ≡ true → All (Well f) (sent r.sent)
@@ -53,33 +48,34 @@ abbrev ToldWell : Figures → Outcome → Type 0
 ToldWell f o = IfSome o (SendsWell f)
 
 module _ (f : Figures) (n : ℕ) (own : has_processor f n ≡ true) where
-  gives_way_well : (s : Processor ℕ) (h b : ℕ) (l : Line) (x : Bool) (ws : Words) → h ≡ home_node b → b < 16 → (x || all_are_zero ws) ≡ true → SendsWell f (giving_way s n h b l x ws)
-  gives_way_well s h b l x ws is small zero within = grind (arith, nat_tests)
+  gives_way_well : (s : Processor ℕ) (m : Message ℕ) (l : Line) (mine : Option Words) → m.sender ≡ home_node m.place → m.place < 16 → SendsWell f (giving_way s n m l mine)
+  gives_way_well s m l None is small within = grind (arith, nat_tests)
+  gives_way_well s m l (Some ws) is small within = grind (arith, nat_tests)
 
-  takes_well : (s : Processor ℕ) (h b c : ℕ) → h ≡ home_node b → b < 16 → SendsWell f (taking s n h b c)
-  takes_well s h b c is small within = (taken_well f n h b (or_left (has_processor f n) _ own) is small, tt)
+  takes_well : (s : Processor ℕ) (m : Message ℕ) → m.sender ≡ home_node m.place → m.place < 16 → SendsWell f (taking s n m)
+  takes_well s m is small within = (taken_well f n m.sender m.place (or_left (has_processor f n) _ own) is small, tt)
 
   -- by the kind of the message
   module _ (s : Processor ℕ) (m : Message ℕ) (from : m.sender ≡ home_node m.place) (small : m.place < 16) where
-    inv_well : (l : Line) → line_at s.lines m.place ≡ l → ToldWell f (invalidated s n m.sender m.place)
+    inv_well : (l : Line) → line_at s.lines m.place ≡ l → ToldWell f (invalidated s n m)
     inv_well Invalid is = rw (is, invalidated) tt
-    inv_well (Shared ws) is = rw (is, invalidated) (gives_way_well s m.sender m.place Invalid false no_words from small refl)
-    inv_well (Exclusive ws) is = rw (is, invalidated) (gives_way_well s m.sender m.place Invalid true ws from small refl)
+    inv_well (Shared ws) is = rw (is, invalidated) (gives_way_well s m Invalid None from small)
+    inv_well (Exclusive ws) is = rw (is, invalidated) (gives_way_well s m Invalid (Some ws) from small)
 
-    down_well : (l : Line) → line_at s.lines m.place ≡ l → ToldWell f (downgraded s n m.sender m.place)
+    down_well : (l : Line) → line_at s.lines m.place ≡ l → ToldWell f (downgraded s n m)
     down_well Invalid is = rw (is, downgraded) tt
     down_well (Shared ws) is = rw (is, downgraded) tt
-    down_well (Exclusive ws) is = rw (is, downgraded) (gives_way_well s m.sender m.place (Shared ws) true ws from small refl)
+    down_well (Exclusive ws) is = rw (is, downgraded) (gives_way_well s m (Shared ws) (Some ws) from small)
 
-    line_well : (l : Line) → SendsWell f (taking_line s n m.sender m.place m.clock l)
-    line_well l = takes_well (at_line m.place l s) m.sender m.place m.clock from small
+    line_well : (l : Line) → SendsWell f (taking_line s n m l)
+    line_well l = takes_well (at_line m.place l s) m from small
 
-    grant_well : (l : Line) → line_at s.lines m.place ≡ l → ToldWell f (granted s n m.sender m.place m.clock)
+    grant_well : (l : Line) → line_at s.lines m.place ≡ l → ToldWell f (granted s n m)
     grant_well l is = grind (arith, nat_tests)
 
-  nack_well : (s : Processor ℕ) (b : ℕ) (k : Option Kind) → ToldWell f (nacked s b k)
-  nack_well s b None = tt
-  nack_well s b (Some j) = cond_both (is_out s.requests b j) _ None (ToldWell f) (λ _ _. tt) (λ _. tt)
+  nack_well : (s : Processor ℕ) (m : Message ℕ) (k : Option Kind) → m.refused ≡ k → ToldWell f (nacked s m)
+  nack_well s m None is = rw (is, nacked) tt
+  nack_well s m (Some j) is = rw (is, nacked) (cond_both (is_out s.requests m.place j) _ None (ToldWell f) (λ _ _. tt) (λ _. tt))
 
   fetch_well : (s : Processor ℕ) (d v c : ℕ) (x : Slot) → slot_at s.slots d ≡ x → ToldWell f (fetched s d v c)
   fetch_well s d v c slot.Free is = rw (is, fetched) tt
@@ -87,26 +83,15 @@ module _ (f : Figures) (n : ℕ) (own : has_processor f n ≡ true) where
   fetch_well s d v c slot.Abandoned is = rw (is, fetched) (λ _. tt)
   fetch_well s d v c (slot.Came u) is = rw (is, fetched) tt
 
-  value_well : (s : Processor ℕ) (from v c : ℕ) (x : Option Node) → node_numbered from ≡ x → ToldWell f (fetched_from s from v c)
-  value_well s from v c None is = rw (is, fetched_from) tt
-  value_well s from v c (Some (node.Processor p)) is = rw (is, fetched_from) tt
-  value_well s from v c (Some (node.Device d)) is = rw (is, fetched_from) (fetch_well s d v c (slot_at s.slots d) refl)
-  value_well s from v c (Some (node.Home b)) is = rw (is, fetched_from) tt
+  value_well : (s : Processor ℕ) (m : Message ℕ) (x : Option Node) → node_numbered m.sender ≡ x → ToldWell f (fetched_from s m)
+  value_well s m (Some (node.Device d)) is = rw (is, fetched_from) (fetch_well s d (first_word m.words) m.clock (slot_at s.slots d) refl)
+  value_well s m _ is = rw (is, fetched_from) tt
 
   module _ (s : Processor ℕ) (m : Message ℕ) (well : Well f m) where
     by_kind : (k : Kind) → m.kind ≡ k → ToldWell f (receive_kind k s n m)
-    by_kind kind.Gets is = tt
-    by_kind kind.Getx is = tt
-    by_kind kind.Upg is = tt
-    by_kind kind.Wb is = tt
-    by_kind kind.Rblk is = tt
-    by_kind kind.Wblk is = tt
-    by_kind kind.Rio is = tt
-    by_kind kind.Wio is = tt
     by_kind kind.Int is = λ _. tt
     by_kind kind.Inv is = let h = from_home f m well kind.Inv is refl in inv_well s m h.0 h.1 (line_at s.lines m.place) refl
     by_kind kind.Down is = let h = from_home f m well kind.Down is refl in down_well s m h.0 h.1 (line_at s.lines m.place) refl
-    by_kind kind.Ack is = tt
     by_kind kind.SData is =
         let h = from_home f m well kind.SData is refl in
         cond_both (is_out s.requests m.place kind.Gets) _ None (ToldWell f) (λ _. line_well s m h.0 h.1 (Shared m.words)) (λ _. tt)
@@ -116,11 +101,10 @@ module _ (f : Figures) (n : ℕ) (own : has_processor f n ≡ true) where
     by_kind kind.Grant is = let h = from_home f m well kind.Grant is refl in grant_well s m h.0 h.1 (line_at s.lines m.place) refl
     by_kind kind.Done is =
         let h = from_home f m well kind.Done is refl in
-        cond_both (is_out s.requests m.place kind.Wb) _ None (ToldWell f) (λ _. takes_well s m.sender m.place m.clock h.0 h.1) (λ _. tt)
-    by_kind kind.Words is = tt
-    by_kind kind.Value is = value_well s m.sender (first_word m.words) m.clock (node_numbered m.sender) refl
-    by_kind kind.Nack is = nack_well s m.place m.refused
-    by_kind kind.Taken is = tt
+        cond_both (is_out s.requests m.place kind.Wb) _ None (ToldWell f) (λ _. takes_well s m h.0 h.1) (λ _. tt)
+    by_kind kind.Value is = value_well s m (node_numbered m.sender) refl
+    by_kind kind.Nack is = nack_well s m m.refused refl
+    by_kind _ is = tt
 
   -- the calls
   module _ (s : Processor ℕ) (r : Reaction (Processor ℕ)) where
@@ -147,22 +131,7 @@ module _ (f : Figures) (n : ℕ) (own : has_processor f n ≡ true) where
   request_well kind.Getx b few small = fits_by f (row kind.Getx) (plain kind.Getx n (home_node b) b) (record { sender = own; receiver = home_end f b small; words = refl; numbers = refl })
   request_well kind.Upg b few small = fits_by f (row kind.Upg) (plain kind.Upg n (home_node b) b) (record { sender = own; receiver = home_end f b small; words = refl; numbers = refl })
   request_well kind.Wb b few small = fits_by f (row kind.Wb) (plain kind.Wb n (home_node b) b) (record { sender = own; receiver = home_end f b small; words = refl; numbers = refl })
-  request_well kind.Rblk b few small = absurd (both_ways false refl few)
-  request_well kind.Wblk b few small = absurd (both_ways false refl few)
-  request_well kind.Rio b few small = absurd (both_ways false refl few)
-  request_well kind.Wio b few small = absurd (both_ways false refl few)
-  request_well kind.Int b few small = absurd (both_ways false refl few)
-  request_well kind.Inv b few small = absurd (both_ways false refl few)
-  request_well kind.Down b few small = absurd (both_ways false refl few)
-  request_well kind.Ack b few small = absurd (both_ways false refl few)
-  request_well kind.SData b few small = absurd (both_ways false refl few)
-  request_well kind.XData b few small = absurd (both_ways false refl few)
-  request_well kind.Grant b few small = absurd (both_ways false refl few)
-  request_well kind.Done b few small = absurd (both_ways false refl few)
-  request_well kind.Words b few small = absurd (both_ways false refl few)
-  request_well kind.Value b few small = absurd (both_ways false refl few)
-  request_well kind.Nack b few small = absurd (both_ways false refl few)
-  request_well kind.Taken b few small = absurd (both_ways false refl few)
+  request_well _ b few small = absurd (both_ways false refl few)
 
   numbers_well : (s : Processor ℕ) (r : Reaction (Processor ℕ)) → r.next.clock ≡ s.clock → r.next.sequence ≡ s.sequence + 1 → numbers_within r.next ≡ true
       → (leb s.clock.global number_end && leb s.sequence number_end) ≡ true
@@ -170,8 +139,6 @@ module _ (f : Figures) (n : ℕ) (own : has_processor f n ≡ true) where
 
   pub processor_sends : (s : Processor ℕ) (i : Input) (r : Reaction (Processor ℕ)) → Allowed f i → reaction s n i ≡ Some r → numbers_within r.next ≡ true
       → All (Well f) (sent r.sent)
-  processor_sends s (Load w) r a h within = silent_well s r (grind (arith, nat_tests))
-  processor_sends s (Store w v) r a h within = silent_well s r (grind (arith, nat_tests))
   processor_sends s (Request b k) r a h within =
       let x = request_sends s r b k h in
       single_well s r (plain k n (home_node b) b) x.0 (request_well k b x.2 (ltb-true b 16 x.1))
@@ -183,9 +150,7 @@ module _ (f : Figures) (n : ℕ) (own : has_processor f n ≡ true) where
       let x = stio_sends s r d w v h in
       single_well s r (to_device kind.Wio s n d w (one_word v)) x.0
       (fits_by f (row kind.Wio) (to_device kind.Wio s n d w (one_word v)) (record { sender = own; receiver = a; words = refl; numbers = numbers_well s r x.1 x.2 within }))
-  processor_sends s (Collect d) r a h within = silent_well s r (grind (arith, nat_tests))
-  processor_sends s (GiveUp d) r a h within = silent_well s r (grind (arith, nat_tests))
-  processor_sends s Poll r a h within = silent_well s r (grind (arith, nat_tests))
   processor_sends s (Receive m) r a h within =
       let Q : Outcome → Type 0 = ToldWell f in
       subst Q h (by_kind s m a m.kind refl) within
+  processor_sends s _ r a h within = silent_well s r (grind (arith, nat_tests))

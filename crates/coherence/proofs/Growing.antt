@@ -22,7 +22,7 @@ use Rattle.coherence.specs.Promise.{Stands}
 use Rattle.coherence.specs.Steps.{Effect, waiting}
 use Rattle.coherence.specs.Worlds.{World, home_at}
 use Rattle.coherence.specs.declared.call.Call.{Call}
-use Rattle.coherence.specs.declared.call.Call.TheVariants.{Load, Store, Request, LdIo, StIo, Collect, GiveUp, Act, Deliver, Poll}
+use Rattle.coherence.specs.declared.call.Call.TheVariants.{Deliver}
 
 onward_global : (c d : Clock ℕ) → (d ≡ c) ⊎ Earlier c d → c.global ≤ d.global
 onward_global c d (inl same) = let g = ap (λ (k : Clock ℕ). k.global) same in omega arith
@@ -32,16 +32,8 @@ onward_global c d (inr (inr up)) = omega (arith, up.0)
 module _ {A B : Type 0} (ma : Meaning A) (mb : Meaning B) where
   -- what still waits waited
   pub still : (c : Call) (w : World A B) (m : Message ℕ) → Stands (waiting ma mb c w) m → Stands w.messages m
-  still (Load p n) w m s = s
-  still (Store p n v) w m s = s
-  still (Request p b k) w m s = s
-  still (LdIo p d n) w m s = s
-  still (StIo p d n v) w m s = s
-  still (Collect p d) w m s = s
-  still (GiveUp p d) w m s = s
-  still (Act d) w m s = s
   still (Deliver i) w m s = stands_removed w.messages i m s
-  still (Poll p) w m s = s
+  still _ w m s = s
 
   module _ (f : Figures) (c : Call) (h : History A B) (e : Effect A B) (known : Known ma mb f h) (later : Known ma mb f (grown ma mb c h e)) (time : Timely h.world e) where
     abbrev w : World A B

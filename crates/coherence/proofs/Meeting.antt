@@ -25,11 +25,11 @@ use Rattle.processor.specs.declared.refusal.Refusal.{Refusal}
 use Rattle.processor.specs.declared.state.Processor.{Processor}
 use Rattle.std.proofs.lemmas.Bool.{ltb-true, ltb-false, and_parts}
 use Rattle.std.specs.Option.{option_map}
-use Rattle.coherence.proofs.Arising.{Arises, allowed, at_first, at_home, at_processor, at_second, came, from_wish, never, passed_check, reacted}
+use Rattle.coherence.proofs.Arising.{Arises, allowed, at_first, at_home, at_processor, at_second, came, from_wish, never, passed_check}
 use Rattle.coherence.proofs.FormsBuilt.{Well}
 use Rattle.coherence.proofs.FormsNodes.{processor_number, device_number, home_number, receiver_on_board}
 use Rattle.coherence.proofs.FormsProcessors.{Allowed}
-use Rattle.coherence.specs.Steps.{Effect, check, argument, words_of, figures, by_processor, by_home, by_first, by_second, called, delivered, ruled, in_turn, requested, acted, wished, effect, waiting}
+use Rattle.coherence.specs.Steps.{Effect, check, argument, words_of, figures, by_processor, by_home, by_first, by_second, called, reacted, delivered, ruled, in_turn, requested, acted, wished, effect, waiting}
 use Rattle.coherence.specs.Worlds.{World, processor_at, home_at}
 use Rattle.coherence.specs.declared.call.Call.{Call}
 use Rattle.coherence.specs.declared.call.Call.TheVariants.{Load, Store, Request, LdIo, StIo, Collect, GiveUp, Act, Deliver, Poll}

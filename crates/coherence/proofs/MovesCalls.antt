@@ -44,15 +44,8 @@ requests_tokens k j n b is = (grind (arith, nat_tests), grind (arith, nat_tests)
 
 -- The requests of calls are those with a number.
 abbrev pub ByNumber : Input → Type 0
-ByNumber (Load n) = Unit {0}
-ByNumber (Store n v) = Unit {0}
 ByNumber (Request a k) = (j : ℕ) × (request_numbered j ≡ Some k)
-ByNumber (Ldio d n) = Unit {0}
-ByNumber (Stio d n v) = Unit {0}
-ByNumber (Collect d) = Unit {0}
-ByNumber (GiveUp d) = Unit {0}
-ByNumber Poll = Unit {0}
-ByNumber (Receive m) = Unit {0}
+ByNumber _ = Unit {0}
 
 module _ {A B : Type 0} (w : World A B) (shape : Shape w) (p : ℕ) (small : p < 4) (tables : ProcessorTables (processor_at w p)) (b : ℕ) (low : b < 16) where
   abbrev state : Processor ℕ

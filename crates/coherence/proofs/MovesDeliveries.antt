@@ -1,5 +1,5 @@
 -- A message about a block reaches a processor: it gives way, takes a reply, or ends a refused request.
-use Rattle.std.proofs.Common.{◌≡◌, ℕ, ◌+◌, ◌<◌, max, Bool, true, false, cond, ◌||◌, eqb, List, [], ◌∷◌, ◌++◌, length, get_or, Some, None, filter, Option, sym, refl, ap, ◌∙◌, subst, ⊎_elim, arith}
+use Rattle.std.proofs.Common.{◌≡◌, ℕ, ◌+◌, ◌<◌, max, true, false, cond, ◌||◌, eqb, List, [], ◌∷◌, ◌++◌, length, get_or, Some, None, filter, Option, sym, refl, ap, ◌∙◌, subst, ⊎_elim, arith}
 use Rattle.list.specs.Contents.{removed}
 use Rattle.message.specs.Kinds.{is_request}
 use Rattle.message.specs.Laws.{goes_home, comes_from_home}
@@ -25,6 +25,7 @@ use Rattle.std.proofs.lemmas.List.{get_or-set_same}
 use Rattle.std.proofs.lemmas.Bool.{and_parts, both_ways, cases_Bool, eq-eqb, eqb-true, ne_eqb, lt-ltb}
 use Rattle.std.proofs.lemmas.Bool.Decides.{nat_tests}
 use Rattle.std.specs.Option.{option_to_list}
+use Rattle.std.specs.Prelude.{unwrap_or}
 use Rattle.coherence.proofs.Arising.{never}
 use Rattle.coherence.proofs.Blocks.{Block, Posted, block, about, on, token, peer}
 use Rattle.coherence.proofs.Classes.{marked_ack, refusal_of}
@@ -77,13 +78,20 @@ module _ {A B : Type 0} (w : World A B) (shape : Shape w) (p : ℕ) (small : p <
   self = eq-eqb b b refl
 
   module _ (from : m.sender ≡ home_node b) (place : m.place ≡ b) where
+    -- the message by the home and the block that it names
+    abbrev named : Message ℕ
+    named = record m { sender = home_node b; place = b }
+
+    same : m ≡ named
+    same = λ i. record m { sender = from i; place = place i }
+
     -- INV and DOWN
-    gives : (k : Kind) (old new : Line) (mark : Bool) (ws : Words) (c d : ℕ) → m.kind ≡ k → about b m ≡ true → token m ≡ c → peer m ≡ p
-        → token (acknowledgement p (home_node b) b 0 mark ws) ≡ d → line_at state.lines b ≡ old
-        → GivesWay b x (y (giving_way state p (home_node b) b new mark ws)) p old new c d ws m
-        (acknowledgement p (home_node b) b (passed state.clock state.clock.global).global mark ws)
-    gives k old new mark ws c d is_kind here class end class_back was =
-        let z = giving_way state p (home_node b) b new mark ws in
+    gives : (k : Kind) (old new : Line) (mine : Option Words) (c d : ℕ) → m.kind ≡ k → about b m ≡ true → token m ≡ c → peer m ≡ p
+        → token (acknowledgement p named 0 mine) ≡ d → line_at state.lines b ≡ old
+        → GivesWay b x (y (giving_way state p named new mine)) p old new c d (unwrap_or mine no_words) m
+        (acknowledgement p named (passed state.clock state.clock.global).global mine)
+    gives k old new mine c d is_kind here class end class_back was =
+        let z = giving_way state p named new mine in
         let g = state.clock.global in
         let clock : (y z).clock p ≡ max g g + 1 = put w shape p small (λ s. s.clock.global) z.next p ∙ rw (eq-eqb p p refl) refl in
         let line : line_at z.next.lines b ≡ new = get_or-set_same state.lines.at b new Invalid (omega (arith, tables.lines)) in
@@ -108,8 +116,8 @@ module _ {A B : Type 0} (w : World A B) (shape : Shape w) (p : ℕ) (small : p <
     -- replies, with the line that they leave
     takes : (k : Kind) (old new : Line) (z : Reaction (Processor ℕ)) (c : ℕ) → about b m ≡ true → token m ≡ c → peer m ≡ p
         → out state.requests b ≡ Some k → line_at state.lines b ≡ old → line_at z.next.lines b ≡ new
-        → z.sent ≡ (taking state p (home_node b) b m.clock).sent → z.entry ≡ None
-        → z.next.requests ≡ (taking state p (home_node b) b m.clock).next.requests
+        → z.sent ≡ (taking state p named).sent → z.entry ≡ None
+        → z.next.requests ≡ (taking state p named).next.requests
         → z.next.clock ≡ passed state.clock m.clock
         → Takes b x (y z) p k old new c m
     takes k old new z c here class end asked was line sends does outs clock =
@@ -135,59 +143,48 @@ module _ {A B : Type 0} (w : World A B) (shape : Shape w) (p : ℕ) (small : p <
     not_device : is_device m.receiver ≡ false
     not_device = rw (to, ne_eqb p 4 (omega arith), ne_eqb p 5 (omega arith)) refl
 
-    -- what a kind's rule says of the home and the block that the message names
-    said : (f : ℕ → ℕ → Outcome) (r : Reaction (Processor ℕ)) → f m.sender m.place ≡ Some r → f (home_node b) b ≡ Some r
-    said f r h = subst (λ (n : ℕ). f n b ≡ Some r) from (subst (λ (n : ℕ). f m.sender n ≡ Some r) place h)
+    -- what a kind's rule says of it
+    said : (f : Message ℕ → Outcome) (r : Reaction (Processor ℕ)) → f m ≡ Some r → f named ≡ Some r
+    said f r h = subst (λ (n : Message ℕ). f n ≡ Some r) same h
 
     by_kind : (k : Kind) (r : Reaction (Processor ℕ)) → m.kind ≡ k → about b m ≡ true → WellRefused m → receive_kind k state p m ≡ Some r → Moves b x (y r)
-    by_kind kind.Gets r k here ok h = never cc
-    by_kind kind.Getx r k here ok h = never cc
-    by_kind kind.Upg r k here ok h = never cc
-    by_kind kind.Wb r k here ok h = never cc
-    by_kind kind.Rblk r k here ok h = never cc
-    by_kind kind.Wblk r k here ok h = never cc
-    by_kind kind.Rio r k here ok h = never cc
-    by_kind kind.Wio r k here ok h = never cc
     by_kind kind.Int r k here ok h = absurd (both_ways (about b m) (rw k refl) here)
-    by_kind kind.Ack r k here ok h = never cc
-    by_kind kind.Words r k here ok h = never cc
     by_kind kind.Value r k here ok h = absurd (both_ways (about b m) (rw k refl) here)
-    by_kind kind.Taken r k here ok h = never cc
-    by_kind kind.Inv r k here ok h = go (facts.invalidates state p r (home_node b) b (said (invalidated state p) r h))
+    by_kind kind.Inv r k here ok h = go (facts.invalidates state p r named (said (invalidated state p) r h))
       where
-        go : facts.Invalidates state p r (home_node b) b → Moves b x (y r)
+        go : facts.Invalidates state p r named → Moves b x (y r)
         go (facts.shared_copy ws was form) =
             subst (λ (z : Reaction (Processor ℕ)). Moves b x (y z)) (sym form)
-            (invalidates_shared p ws m _ (gives kind.Inv (Shared ws) Invalid false no_words 10 12 k here (rw k refl) (rw k to) refl was))
+            (invalidates_shared p ws m _ (gives kind.Inv (Shared ws) Invalid None 10 12 k here (rw k refl) (rw k to) refl was))
         go (facts.owned_copy ws was form) =
             subst (λ (z : Reaction (Processor ℕ)). Moves b x (y z)) (sym form)
-            (invalidates_owned p ws m _ (gives kind.Inv (Exclusive ws) Invalid true ws 10 marked_ack k here (rw k refl) (rw k to) refl was))
+            (invalidates_owned p ws m _ (gives kind.Inv (Exclusive ws) Invalid (Some ws) 10 marked_ack k here (rw k refl) (rw k to) refl was))
     by_kind kind.Down r k here ok h =
-        let f = facts.downgrades state p r (home_node b) b (said (downgraded state p) r h) in
+        let f = facts.downgrades state p r named (said (downgraded state p) r h) in
         subst (λ (z : Reaction (Processor ℕ)). Moves b x (y z)) (sym f.2)
-        (downgrades p f.0 m _ (gives kind.Down (Exclusive f.0) (Shared f.0) true f.0 11 marked_ack k here (rw k refl) (rw k to) refl f.1))
+        (downgrades p f.0 m _ (gives kind.Down (Exclusive f.0) (Shared f.0) (Some f.0) 11 marked_ack k here (rw k refl) (rw k to) refl f.1))
     by_kind kind.SData r k here ok h =
-        let f = facts.shares state p r (home_node b) b m.words m.clock (said (λ n a. shared state p n a m.words m.clock) r h) in
+        let f = facts.shares state p r named (said (shared state p) r h) in
         let line = get_or-set_same state.lines.at b (Shared m.words) Invalid (omega (arith, tables.lines)) in
         subst (λ (z : Reaction (Processor ℕ)). Moves b x (y z)) (sym f.1)
-        (shares p m small (takes kind.Gets (x.line p) (Shared m.words) (taking_line state p (home_node b) b m.clock (Shared m.words)) 13 here (rw k refl) (rw k to) f.0 refl line refl refl refl refl))
+        (shares p m small (takes kind.Gets (x.line p) (Shared m.words) (taking_line state p named (Shared m.words)) 13 here (rw k refl) (rw k to) f.0 refl line refl refl refl refl))
     by_kind kind.XData r k here ok h =
-        let f = facts.owns state p r (home_node b) b m.words m.clock (said (λ n a. owned state p n a m.words m.clock) r h) in
+        let f = facts.owns state p r named (said (owned state p) r h) in
         let line = get_or-set_same state.lines.at b (Exclusive m.words) Invalid (omega (arith, tables.lines)) in
         subst (λ (z : Reaction (Processor ℕ)). Moves b x (y z)) (sym f.1)
-        (owns p m small (takes kind.Getx (x.line p) (Exclusive m.words) (taking_line state p (home_node b) b m.clock (Exclusive m.words)) 14 here (rw k refl) (rw k to) f.0 refl line refl refl refl refl))
+        (owns p m small (takes kind.Getx (x.line p) (Exclusive m.words) (taking_line state p named (Exclusive m.words)) 14 here (rw k refl) (rw k to) f.0 refl line refl refl refl refl))
     by_kind kind.Grant r k here ok h =
-        let f = facts.betters state p r (home_node b) b m.clock (said (λ n a. granted state p n a m.clock) r h) in
+        let f = facts.betters state p r named (said (granted state p) r h) in
         let ws = f.1 in
         let line = get_or-set_same state.lines.at b (Exclusive ws) Invalid (omega (arith, tables.lines)) in
         subst (λ (z : Reaction (Processor ℕ)). Moves b x (y z)) (sym f.3)
-        (betters p ws m small (takes kind.Upg (Shared ws) (Exclusive ws) (taking_line state p (home_node b) b m.clock (Exclusive ws)) 15 here (rw k refl) (rw k to) f.0 f.2 line refl refl refl refl))
+        (betters p ws m small (takes kind.Upg (Shared ws) (Exclusive ws) (taking_line state p named (Exclusive ws)) 15 here (rw k refl) (rw k to) f.0 f.2 line refl refl refl refl))
     by_kind kind.Done r k here ok h =
-        let f = facts.gives_back state p r (home_node b) b m.clock (said (λ n a. done state p n a m.clock) r h) in
+        let f = facts.gives_back state p r named (said (done state p) r h) in
         subst (λ (z : Reaction (Processor ℕ)). Moves b x (y z)) (sym f.1)
-        (gives_back p m small (takes kind.Wb (x.line p) (x.line p) (taking state p (home_node b) b m.clock) 16 here (rw (k, not_device) refl) (rw k to) f.0 refl refl refl refl refl refl))
+        (gives_back p m small (takes kind.Wb (x.line p) (x.line p) (taking state p named) 16 here (rw (k, not_device) refl) (rw k to) f.0 refl refl refl refl refl refl))
     by_kind kind.Nack r k here ok h =
-        let f = facts.ends state p r (home_node b) b m.refused (said (λ n a. nacked state a m.refused) r h) in
+        let f = facts.ends state p r named (said (nacked state) r h) in
         let z = quiet (at_request b None state) in
         let none : out z.next.requests b ≡ None = get_or-set_same state.requests.at b None None (omega (arith, tables.requests)) in
         subst (λ (z : Reaction (Processor ℕ)). Moves b x (y z)) (sym f.3)
@@ -202,6 +199,7 @@ module _ {A B : Type 0} (w : World A B) (shape : Shape w) (p : ℕ) (small : p <
           messages = posted z [] here refl;
           trail = kept_added (on b) w.trail [] refl;
         }))
+    by_kind _ r k here ok h = never cc
 
   -- Whatever reaches a processor is a move of the block.
   pub delivery_moves : (r : Reaction (Processor ℕ)) → (comes_from_home m.kind ≡ true → m.sender ≡ home_node m.place) → WellRefused m

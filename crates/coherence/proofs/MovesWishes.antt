@@ -121,26 +121,12 @@ module _ {S : Type 0} (m : Meaning S) (d : ℕ) (br : Bridge S ℕ) (r : Reactio
   got x h = go x.kind refl h
     where
       go : (k : Kind) → x.kind ≡ k → does (receive_kind k m d br x) ≡ Some r → Gets x
-      go kind.Gets k h = never cc
-      go kind.Getx k h = never cc
-      go kind.Upg k h = never cc
-      go kind.Wb k h = never cc
-      go kind.Rblk k h = never cc
-      go kind.Wblk k h = never cc
       go kind.Rio k h = untouched (λ b. rw k refl) (record { requests = grind (arith, nat_tests); sends = λ b. grind (arith, nat_tests) })
       go kind.Wio k h = untouched (λ b. rw k refl) (record { requests = grind (arith, nat_tests); sends = λ b. grind (arith, nat_tests) })
-      go kind.Int k h = never cc
-      go kind.Inv k h = never cc
-      go kind.Down k h = never cc
-      go kind.Ack k h = never cc
-      go kind.SData k h = never cc
-      go kind.XData k h = never cc
-      go kind.Grant k h = never cc
       go kind.Done k h = finished k (ended x kind.Wblk (Finish x.sender x.place) refl refl h)
       go kind.Words k h = landed k (ended x kind.Rblk (Land x.sender x.place x.words) refl refl h)
-      go kind.Value k h = never cc
       go kind.Nack k h = let z = resent x h in sent_again z.0 k z.1
-      go kind.Taken k h = never cc
+      go _ k h = never cc
 
   -- what a bridge does is on its device's words
   pub off_blocks : (i : Input) → reaction m d br i ≡ Some r → (b : ℕ) → filter (on b) (option_to_list r.entry) ≡ []

@@ -49,16 +49,10 @@ ack_sender f m well is = grind (arith, nat_tests)
 
 -- a call names its request by number
 by_number : (c : Call) (p : ℕ) (i : processor.Input) → Asks c p i → ByNumber i
-by_number (call.Load q n) p i asks = subst ByNumber (sym asks.1) tt
-by_number (call.Store q n v) p i asks = subst ByNumber (sym asks.1) tt
 by_number (call.Request q b k) p i asks = subst ByNumber (sym asks.3) (k, asks.2)
-by_number (call.LdIo q d n) p i asks = subst ByNumber (sym asks.1) tt
-by_number (call.StIo q d n v) p i asks = subst ByNumber (sym asks.1) tt
-by_number (call.Collect q d) p i asks = subst ByNumber (sym asks.1) tt
-by_number (call.GiveUp q d) p i asks = subst ByNumber (sym asks.1) tt
 by_number (call.Act d) p i asks = absurd asks
 by_number (call.Deliver n) p i asks = absurd asks
-by_number (call.Poll q) p i asks = subst ByNumber (sym asks.1) tt
+by_number _ p i asks = subst ByNumber (sym asks.1) tt
 
 -- what has a rule at a home goes home
 goes : (h : Home ℕ) (b : ℕ) (m : Message ℕ) (r : Reaction (Home ℕ)) → received h b m ≡ Some r → goes_home m.kind ≡ true

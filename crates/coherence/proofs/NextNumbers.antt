@@ -22,7 +22,7 @@ use Rattle.coherence.proofs.Meeting.{Asks, Goes}
 use Rattle.coherence.specs.Histories.{Issued, issues}
 use Rattle.coherence.specs.Worlds.{World, processor_at, with_processor, with_first, with_second, no_processor}
 use Rattle.coherence.specs.declared.call.Call.{Call}
-use Rattle.coherence.specs.declared.call.Call.TheVariants.{Load, Store, Request, LdIo, StIo, Collect, GiveUp, Act, Deliver, Poll}
+use Rattle.coherence.specs.declared.call.Call.TheVariants.{Request, Collect, GiveUp, Act, Deliver, Poll}
 
 -- an interrupt's place is its receiver, and a request's block is its home's
 pub interrupt_place : (f : Figures) (m : Message ℕ) → Well f m → same_kind m.kind kind.Int ≡ true → m.place ≡ m.receiver
@@ -63,16 +63,13 @@ module _ {A B : Type 0} (w : World A B) where
 module _ {A B : Type 0} (ma : Meaning A) (mb : Meaning B) (w : World A B) where
   -- what a call of a processor issues
   pub call_issues : (c : Call) (p : ℕ) (i : processor.Input) → Asks c p i → issues ma mb c w ≡ option_map (issued_as p (processor_at w p).sequence) (own_access i)
-  call_issues (Load p n) q i asks = rw (asks.0, asks.1) refl
-  call_issues (Store p n v) q i asks = rw (asks.0, asks.1) refl
   call_issues (Request p b k) q i asks = rw asks.3 refl
-  call_issues (LdIo p d n) q i asks = rw (asks.0, asks.1) refl
-  call_issues (StIo p d n v) q i asks = rw (asks.0, asks.1) refl
   call_issues (Collect p d) q i asks = rw asks.1 refl
   call_issues (GiveUp p d) q i asks = rw asks.1 refl
   call_issues (Act d) q i asks = absurd asks
   call_issues (Deliver n) q i asks = absurd asks
   call_issues (Poll p) q i asks = rw asks.1 refl
+  call_issues _ q i asks = rw (asks.0, asks.1) refl
 
   -- a delivery issues nothing
   pub delivery_issues : (c : Call) (m : Message ℕ) (to : ℕ) → Goes ma mb w c m to → issues ma mb c w ≡ None

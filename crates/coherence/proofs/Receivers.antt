@@ -14,6 +14,7 @@ use Rattle.message.specs.declared.form.End.TheVariants.{Owner}
 use Rattle.message.specs.declared.kind.Kind.{Kind}
 use Rattle.message.specs.declared.kind.Kind.TheVariants as kind
 use Rattle.message.specs.declared.message.Message.{Message}
+use Rattle.ordering.specs.Words.{first_word}
 use Rattle.processor.specs.Receive as processor
 use Rattle.processor.specs.Slots.{is_awaited, slot_at}
 use Rattle.processor.specs.declared.state.Processor.{Processor}
@@ -48,10 +49,10 @@ pub owner_device : (f : Figures) (n p : ℕ) → end_fits f Owner n p ≡ true �
 owner_device f n p is = grind arith
 
 -- VALUE from a device finds its slot
-pub fetches : (s : Processor ℕ) (n d : ℕ) → d < 2 → (v c : ℕ) → n ≡ device_node d → is_awaited (slot_at s.slots d) ≡ true → is_some (processor.fetched_from s n v c) ≡ true
-fetches s n zero two v c from awaited = rw from (value_ruled s 0 v c awaited)
-fetches s n (suc zero) two v c from awaited = rw from (value_ruled s 1 v c awaited)
-fetches s n (suc (suc d)) two v c from awaited = absurd (omega arith)
+pub fetches : (s : Processor ℕ) (m : Message ℕ) (d : ℕ) → d < 2 → m.sender ≡ device_node d → is_awaited (slot_at s.slots d) ≡ true → is_some (processor.fetched_from s m) ≡ true
+fetches s m zero two from awaited = rw from (value_ruled s 0 (first_word m.words) m.clock awaited)
+fetches s m (suc zero) two from awaited = rw from (value_ruled s 1 (first_word m.words) m.clock awaited)
+fetches s m (suc (suc d)) two from awaited = absurd (omega arith)
 
 pub on_board : (f : Figures) (n : ℕ) → has_processor f n ≡ true → n < 4
 on_board f n is = ltb-true n 4 (and_parts (ltb n 4) (ltb n f.processors) is).0

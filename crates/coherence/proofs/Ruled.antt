@@ -18,7 +18,6 @@ use Rattle.message.specs.Requests.{is_out}
 use Rattle.message.specs.declared.kind.Kind.{Kind}
 use Rattle.message.specs.declared.kind.Kind.TheVariants as kind
 use Rattle.message.specs.declared.message.Message.{Message}
-use Rattle.ordering.specs.Words.{first_word}
 use Rattle.processor.specs.Receive as processor
 use Rattle.processor.specs.Slots.{is_awaited, slot_at}
 use Rattle.std.proofs.lemmas.Bool.{and_from, cases_eq, cond-false, and_parts, both_ways, cond-true, eq-eqb, lt-ltb, or_cases, or_left, or_right}
@@ -158,13 +157,13 @@ module _ {A B : Type 0} (ma : Meaning A) (mb : Meaning B) (w : World A B) (token
   inv_rules : m.kind ≡ kind.Inv → HasRule
   inv_rules is =
       to_processor kind.Inv is (on_board (figures ma mb w) r (fits_to kind.Inv is refl))
-      (inv_ruled (processor_at w r) r m.sender m.place
+      (inv_ruled (processor_at w r) r m
       (finds_copy (block m.place w) (tokens_here kind.Inv is refl refl) r (omega (arith, waits kind.Inv is refl refl 10 (class_as kind.Inv is)))))
 
   down_rules : m.kind ≡ kind.Down → HasRule
   down_rules is =
       to_processor kind.Down is (on_board (figures ma mb w) r (fits_to kind.Down is refl))
-      (down_ruled (processor_at w r) r m.sender m.place
+      (down_ruled (processor_at w r) r m
       (finds_owned (block m.place w) (tokens_here kind.Down is refl refl) r (waits kind.Down is refl refl 11 (class_as kind.Down is))))
 
   s_data_rules : m.kind ≡ kind.SData → HasRule
@@ -184,7 +183,7 @@ module _ {A B : Type 0} (ma : Meaning A) (mb : Meaning B) (w : World A B) (token
       let near = on_board (figures ma mb w) r (fits_to kind.Grant is refl) in
       let here = tokens_here kind.Grant is refl refl in
       let some = waits kind.Grant is refl refl 15 (class_as kind.Grant is) in
-      to_processor kind.Grant is near (grant_ruled (processor_at w r) r m.sender m.place m.clock
+      to_processor kind.Grant is near (grant_ruled (processor_at w r) r m
       (out_processor near kind.Upg ((finds_request (block m.place w) here r).2 some)) (finds_shared (block m.place w) here r some))
 
   words_rules : m.kind ≡ kind.Words → HasRule
@@ -250,7 +249,7 @@ module _ {A B : Type 0} (ma : Meaning A) (mb : Meaning B) (w : World A B) (token
           let some = counted_crossing w.messages i m at 18 (device_node d) r
           (and_from _ _ (and_from _ _ (eq-eqb _ 18 (ap (λ j. class_by j m.exclusive m.refused) is)) (eq-eqb m.sender (device_node d) sender)) (eq-eqb r r refl)) in
           let awaited = sure (is_awaited (slot_at (processor_at w r).slots d)) (omega (arith, slots r d near two)) in
-          to_processor kind.Value is near (fetches (processor_at w r) m.sender d two (first_word m.words) m.clock sender awaited)
+          to_processor kind.Value is near (fetches (processor_at w r) m d two sender awaited)
 
   by_kind : (k : Kind) → m.kind ≡ k → HasRule
   by_kind kind.Gets is = request_rules (ap is_request is)

@@ -15,6 +15,7 @@ use Rattle.message.specs.Kinds.{kind_number, is_request}
 use Rattle.message.specs.Requests.{is_out, out}
 use Rattle.message.specs.declared.kind.Kind.{Kind}
 use Rattle.message.specs.declared.kind.Kind.TheVariants as kind
+use Rattle.message.specs.declared.message.Message.{Message}
 use Rattle.message.specs.Requests.{Requests}
 use Rattle.processor.specs.Lines.{line_at}
 use Rattle.processor.specs.Receive as receive
@@ -95,15 +96,15 @@ request_ruled h b r v s p is new = grind (arith, new)
 pub idle_view : (h : Home ℕ) → (view h.directory ≡ Busy → ⊥) → (gathers h ≡ false) × (has_replied h ≡ false)
 idle_view h is = grind arith
 
-module _ (s : Processor ℕ) (n h b : ℕ) where
-  pub inv_ruled : held (line_at s.lines b) ≡ 1 → is_some (receive.invalidated s n h b) ≡ true
+module _ (s : Processor ℕ) (n : ℕ) (m : Message ℕ) where
+  pub inv_ruled : held (line_at s.lines m.place) ≡ 1 → is_some (receive.invalidated s n m) ≡ true
   inv_ruled is = grind arith
 
-  pub down_ruled : owned (line_at s.lines b) ≡ 1 → is_some (receive.downgraded s n h b) ≡ true
+  pub down_ruled : owned (line_at s.lines m.place) ≡ 1 → is_some (receive.downgraded s n m) ≡ true
   down_ruled is = grind arith
 
-  pub grant_ruled : (c : ℕ) → is_out s.requests b kind.Upg ≡ true → shared (line_at s.lines b) ≡ 1 → is_some (receive.granted s n h b c) ≡ true
-  grant_ruled c asked is = grind arith
+  pub grant_ruled : is_out s.requests m.place kind.Upg ≡ true → shared (line_at s.lines m.place) ≡ 1 → is_some (receive.granted s n m) ≡ true
+  grant_ruled asked is = grind arith
 
 pub value_ruled : (s : Processor ℕ) (d v c : ℕ) → is_awaited (slot_at s.slots d) ≡ true → is_some (receive.fetched s d v c) ≡ true
 value_ruled s d v c is = grind arith

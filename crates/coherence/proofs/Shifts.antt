@@ -9,7 +9,7 @@ use Rattle.std.proofs.lemmas.Bool.{and_right, cases_Bool, eq-eqb, eqb-true}
 use Rattle.std.specs.List.{AllByRecursion as All}
 use Rattle.coherence.proofs.Blocks.{Block, Posted, token, peer, pending, pending_moved, pending_gone, pending_come}
 use Rattle.coherence.proofs.Counting.{indicator, indicator_most}
-use Rattle.coherence.proofs.Tokens.{Tokens, AskedFor, Gathered, Held, answering, gathering, is_reply}
+use Rattle.coherence.proofs.Tokens.{Tokens, AskedFor, Gathered, Held, answering, gathering, held, is_reply, owned, shared}
 
 -- the test of an end, at the node and elsewhere
 at_end : (t : Bool) (p : ℕ) → indicator (t && eqb p p) ≡ indicator t
@@ -64,9 +64,38 @@ put_there p q new old now is apart = is ∙ ap (λ b. cond b new old) apart
 pub put_same : {A : Type 0} (p q : ℕ) (f : ℕ → A) → cond (eqb p q) (f p) (f q) ≡ f q
 put_same p q f = ⊎_elim (λ here. rw here (ap f (eqb-true p q here))) (λ there. rw there refl) (cases_Bool (eqb p q))
 
+-- Node p before and after: its line as numbers, and its messages, of which one of class c goes and one of class d comes.
+pub record Swaps (x y : Block) (p : ℕ) (old new : Line) (c d : ℕ) : Type 0 where
+  pub apart : answering x.home p + gathering x.home ≤ 1
+  pub held_then : held (x.line p) ≡ held old
+  pub shared_then : shared (x.line p) ≡ shared old
+  pub owned_then : owned (x.line p) ≡ owned old
+  pub held_now : held (y.line p) ≡ held new
+  pub shared_now : shared (y.line p) ≡ shared new
+  pub owned_now : owned (y.line p) ≡ owned new
+  pub count : (n : ℕ) → pending y.messages n p + indicator (eqb c n) ≡ pending x.messages n p + indicator (eqb d n)
+  pub gone : pending y.messages c p + indicator (eqb c c) ≡ pending x.messages c p + indicator (eqb d c)
+
 -- a home that has replied does not gather
 pub apart : (h : Home ℕ) (q : ℕ) → answering h q + gathering h ≤ 1
 apart h q = grind (arith, indicator_most)
+
+pub swaps : (x y : Block) (p : ℕ) (old new : Line) (c d : ℕ) → x.line p ≡ old → y.line p ≡ cond (eqb p p) new (x.line p)
+    → ((n : ℕ) → pending y.messages n p + indicator (eqb c n) ≡ pending x.messages n p + indicator (eqb d n))
+    → Swaps x y p old new c d
+swaps x y p old new c d was put count =
+    let now = put_here p new (x.line p) (y.line p) put in
+    record {
+      apart = apart x.home p;
+      held_then = ap held was;
+      shared_then = ap shared was;
+      owned_then = ap owned was;
+      held_now = ap held now;
+      shared_now = ap shared now;
+      owned_now = ap owned now;
+      count = count;
+      gone = count c;
+    }
 
 -- every waiting reply has the home's clock
 abbrev pub TimedReply : Home ℕ → Message ℕ → Type 0

@@ -23,7 +23,7 @@ use Rattle.coherence.specs.Promise.{Stands, Done}
 use Rattle.coherence.specs.Steps.{Effect, by_processor}
 use Rattle.coherence.specs.Worlds.{World, processor_at}
 use Rattle.coherence.specs.declared.call.Call.{Call}
-use Rattle.coherence.specs.declared.call.Call.TheVariants.{Load, Store, Request, LdIo, StIo, Collect, GiveUp, Act, Deliver, Poll}
+use Rattle.coherence.specs.declared.call.Call.TheVariants.{Load, Collect, Act, Deliver}
 
 -- at a processor
 load_enters : (s : Processor ℕ) (n k : ℕ) (r : Reaction (Processor ℕ)) → processor.reaction s n (processor.Load k) ≡ Some r → is_some r.entry ≡ true
@@ -88,16 +88,9 @@ module _ {A B : Type 0} (ma : Meaning A) (mb : Meaning B) where
     by_call : (k : Call) (p : ℕ) (i : processor.Input) (r : Reaction (Processor ℕ)) → p < 4 → Asks k p i → processor.reaction (processor_at w p) p i ≡ Some r → e ≡ by_processor w p r → Tells k
     by_call (Load q n) p i r small asks reacts same =
         by_load q n p r asks.0 (subst (λ (j : processor.Input). processor.reaction (processor_at w p) p j ≡ Some r) asks.1 reacts) (ap (λ (x : Effect A B). x.entry) same) (ap (λ (x : Effect A B). x.answer) same)
-    by_call (Store q n v) p i r small asks reacts same = silent (Store q n v) refl
-    by_call (Request q b k) p i r small asks reacts same = silent (Request q b k) refl
-    by_call (LdIo q d n) p i r small asks reacts same = silent (LdIo q d n) refl
-    by_call (StIo q d n v) p i r small asks reacts same = silent (StIo q d n v) refl
     by_call (Collect q d) p i r small asks reacts same =
         by_collect q d p r asks.0 (omega (arith, asks.0)) asks.2 (subst (λ (j : processor.Input). processor.reaction (processor_at w p) p j ≡ Some r) asks.1 reacts) (ap (λ (x : Effect A B). x.answer) same)
-    by_call (GiveUp q d) p i r small asks reacts same = silent (GiveUp q d) refl
-    by_call (Act d) p i r small asks reacts same = silent (Act d) refl
-    by_call (Deliver n) p i r small asks reacts same = silent (Deliver n) refl
-    by_call (Poll q) p i r small asks reacts same = silent (Poll q) refl
+    by_call k p i r small asks reacts same = silent k refl
 
     tells_true : w.count ≤ 4 → Meets ma mb w c e → Tells c
     tells_true few (at_call p small i r asks own ok rest reacts same) = by_call c p i r (omega arith) asks reacts same

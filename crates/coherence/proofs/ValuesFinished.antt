@@ -2,15 +2,13 @@
 -- from now on, when nobody has a copy.
 use Rattle.std.proofs.Common.{◌≡◌, ℕ, ◌+◌, ◌*◌, ◌/◌, ◌<◌, true, false, ◌⊎◌, List, [], ◌∷◌, ◌++◌, length, get_or, Some, None, Option, sym, refl, ap, ◌∙◌, subst, inl, inr, arith}
 use Rattle.home.specs.Directories.{round_of}
-use Rattle.home.specs.Reactions.{clock_after, entry_for, reply, words_after}
+use Rattle.home.specs.Reactions.{block_entry, clock_after, entry_for, reply, words_after}
 use Rattle.home.specs.Requests.{carries_words, operation_for}
 use Rattle.home.specs.declared.machine.Home.{Home}
 use Rattle.home.specs.declared.request.Request.{Request}
 use Rattle.message.specs.Kinds.{same_kind}
-use Rattle.message.specs.Nodes.{home_node}
 use Rattle.message.specs.declared.kind.Kind.{Kind}
 use Rattle.message.specs.declared.kind.Kind.TheVariants.{Wblk}
-use Rattle.ordering.specs.Stamps.{stamped}
 use Rattle.ordering.specs.Words.{no_words}
 use Rattle.ordering.specs.declared.clock.Clock.{Clock}
 use Rattle.ordering.specs.declared.operation.Operation.{Operation}
@@ -45,18 +43,6 @@ Does k =
 
 does : (k : Kind) → Does k
 does k = grind (arith, nat_tests)
-
--- The entry of a block operation.
-abbrev block_entry : ℕ → Request → Words → Clock ℕ → Operation → Entry
-block_entry b r w c o = record {
-  party = r.requester;
-  sequence = r.sequence;
-  operation = o;
-  space = 0;
-  place = b;
-  values = w;
-  stamp = stamped c (home_node b);
-}
 
 entry_some : (b : ℕ) (r : Request) (w : Words) (c : Clock ℕ) (o : Operation) → operation_for r.kind ≡ Some o → entry_for b r w c ≡ Some (block_entry b r w c o)
 entry_some b r w c o is = rw (is, entry_for) refl

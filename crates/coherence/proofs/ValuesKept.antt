@@ -14,7 +14,7 @@ use Rattle.std.proofs.lemmas.Option.{same_Some}
 use Rattle.trail.specs.declared.address.Address.{Address}
 use Rattle.trail.specs.declared.entry.Entry.{Entry}
 use Rattle.coherence.proofs.Arising.{never}
-use Rattle.coherence.proofs.Adding.{grown, last_entry}
+use Rattle.coherence.proofs.Adding.{Enters, enters, finish, grown, last_entry, load, nothing, store}
 use Rattle.coherence.proofs.BoundsQuiet.{fit_request}
 use Rattle.coherence.proofs.Blocks.{Block, block}
 use Rattle.coherence.proofs.Classes.{refusal_of}
@@ -73,32 +73,17 @@ module _ (b : ℕ) (start : Address → ℕ) (x y : Block) (t : Tokens x) (v : V
 
   -- Where a move adds an entry, what it read stood there.
   pub values_read : Moves b x y → (e : Entry) → y.trail ≡ x.trail ++ e ∷ [] → Reads (current start x.trail) e
-  values_read move e added = go move
+  values_read move e added = go (enters b x y move)
     where
-      quiet : y.trail ≡ x.trail → Reads (current start x.trail) e
-      quiet same = absurd (grown x.trail e (sym same ∙ added))
-
-      go : Moves b x y → Reads (current start x.trail) e
-      go (rests g) = quiet g.trail
-      go (loads p w ws f g) = subst (Reads (current start x.trail)) (last_entry x.trail f e (sym g.trail ∙ added)) (loads_reads b start x y v p w ws f g)
-      go (stores p w n ws f g) = subst (Reads (current start x.trail)) (last_entry x.trail f e (sym g.trail ∙ added)) (no_read (current start x.trail) f (ap is_read g.entry.operation))
-      go (requests n k m g) = quiet g.trail
-      go (invalidates_shared p ws m a g) = quiet g.trail
-      go (invalidates_owned p ws m a g) = quiet g.trail
-      go (downgrades p ws m a g) = quiet g.trail
-      go (shares p m small g) = quiet g.trail
-      go (owns p m small g) = quiet g.trail
-      go (betters p ws m small g) = quiet g.trail
-      go (gives_back p m small g) = quiet g.trail
-      go (lands n m large g) = quiet g.trail
-      go (stored n m large g) = quiet g.trail
-      go (nacked p k m is g) = quiet g.trail
-      go (again n k m a is g) = quiet g.trail
-      go (refuses n k m a is g) = quiet g.trail
-      go (asks_holders m planned asked g) = quiet g.trail
-      go (hears m g) = quiet g.trail
-      go (finishes g) = finishes_reads b start x y t v g e added
-      go (frees n m g) = quiet g.trail
+      go : Enters b x y → Reads (current start x.trail) e
+      go (nothing same) = absurd (grown x.trail e (sym same ∙ added))
+      go (load p w ws f g) =
+          subst (Reads (current start x.trail)) (last_entry x.trail f e (sym g.trail ∙ added))
+          (loads_reads b start x y v p w ws f g)
+      go (store p w n ws f g) =
+          subst (Reads (current start x.trail)) (last_entry x.trail f e (sym g.trail ∙ added))
+          (no_read (current start x.trail) f (ap is_read g.entry.operation))
+      go (finish g) = finishes_reads b start x y t v g e added
 
 module _ {A B : Type 0} (ma : Meaning A) (mb : Meaning B) (k : Making A B) where
   -- the words of a block at the making, one by one

@@ -1,6 +1,6 @@
 -- A run: one making and then any calls. Its history is the world that they lead to, the operations that they issued, in
 -- order, and what loads and collects told.
-use Rattle.std.specs.Prelude.{ℕ, ◌+◌, Bool, cond, ◌&&◌, List, [], ◌∷◌, ◌++◌, Some, None, Ok, Err, Option, ◌==◌, nat_lt}
+use Rattle.std.specs.Prelude.{ℕ, ◌+◌, Bool, if◌then◌else◌, ◌&&◌, List, [], ◌∷◌, ◌++◌, Some, None, Ok, Err, Option, ◌==◌, nat_lt}
 use Rattle.device.specs.Meaning.{Meaning}
 use Rattle.device.specs.declared.meaning.Wish.{Wish}
 use Rattle.message.specs.Nodes.{device_node}
@@ -37,8 +37,8 @@ access o s p = record { operation = o; space = s; place = p }
 -- What a device's wish goes to: its own words, a processor, or a block of memory.
 abbrev pub wish_access : ℕ → Wish → Access
 wish_access d h =
-    cond (is Int h.operation) (access Int 3 h.processor)
-    (access h.operation (cond (is_block h.operation) 0 (1 + d)) h.place)
+    if is Int h.operation then access Int 3 h.processor
+    else access h.operation (if is_block h.operation then 0 else 1 + d) h.place
 
 -- The number of the latest LDio of processor p to device d among those issued.
 abbrev pub is_ldio : ℕ → ℕ → Issued → Bool
@@ -46,7 +46,10 @@ is_ldio p d x = x.party == p && (is LdIo x.access.operation && x.access.space ==
 
 abbrev pub latest_ldio : List Issued → ℕ → ℕ → Option ℕ
 latest_ldio [] p d = None
-latest_ldio (x ∷ xs) p d = elim (latest_ldio xs p d) [ Some n ↦ Some n | None ↦ cond (is_ldio p d x) (Some x.sequence) None ]
+latest_ldio (x ∷ xs) p d = elim (latest_ldio xs p d) [
+  | Some n ↦ Some n
+  | None ↦ if is_ldio p d x then Some x.sequence else None
+]
 
 module _ {A B : Type 0} (ma : Meaning A) (mb : Meaning B) where
   abbrev pub own : World A B → ℕ → Access → Issued
@@ -59,39 +62,27 @@ module _ {A B : Type 0} (ma : Meaning A) (mb : Meaning B) where
   abbrev pub issues : Call → World A B → Option Issued
   issues (call.Load p n) w = Some (own w p (access Ld 0 n))
   issues (call.Store p n v) w = Some (own w p (access St 0 n))
-  issues (call.Request p b k) w = None
   issues (call.LdIo p d n) w = Some (own w p (access LdIo (1 + d) n))
   issues (call.StIo p d n v) w = Some (own w p (access StIo (1 + d) n))
-  issues (call.Collect p d) w = None
-  issues (call.GiveUp p d) w = None
   issues (call.Act d) w =
-      cond (nat_lt d 1)
-      (wished 0 w.first.sequence (ma.wish w.first.device))
-      (wished 1 w.second.sequence (mb.wish w.second.device))
-  issues (call.Deliver i) w = None
-  issues (call.Poll p) w = None
+      if nat_lt d 1
+      then wished 0 w.first.sequence (ma.wish w.first.device)
+      else wished 1 w.second.sequence (mb.wish w.second.device)
+  issues _ w = None
 
   -- Of which operation a call tells: a load of its own, a collect of the latest LDio.
   abbrev pub told_number : Call → History A B → Option (ℕ × ℕ)
   told_number (call.Load p n) h = Some (p, (processor_at h.world p).sequence)
-  told_number (call.Store p n v) h = None
-  told_number (call.Request p b k) h = None
-  told_number (call.LdIo p d n) h = None
-  told_number (call.StIo p d n v) h = None
   told_number (call.Collect p d) h = option_map (λ n. (p, n)) (latest_ldio h.issued p d)
-  told_number (call.GiveUp p d) h = None
-  told_number (call.Act d) h = None
-  told_number (call.Deliver i) h = None
-  told_number (call.Poll p) h = None
+  told_number _ h = None
 
   abbrev pub tells : Option (ℕ × ℕ) → Option ℕ → List Told
-  tells None v = []
-  tells (Some x) None = []
   tells (Some x) (Some v) = record { party = x.0; sequence = x.1; value = v } ∷ []
+  tells _ _ = []
 
   -- One call more: a refused one leaves the history as it was.
   abbrev pub answered : Call → History A B → Answer → World A B → History A B
-  answered c h (Err f) w = record { world = w; issued = h.issued; told = h.told }
+  answered c h (Err f) w = record h { world = w }
   answered c h (Ok v) w = record {
     world = w;
     issued = h.issued ++ option_to_list (issues c h.world);

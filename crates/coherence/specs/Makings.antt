@@ -22,7 +22,7 @@ pub record Making (A B : Type 0) : Type 0 where
 -- The words of block b among those of memory.
 abbrev pub block_words : List ℕ → ℕ → Words
 block_words ws b = record {
-  at = slice_index ws (4 * b) ∷ (slice_index ws (4 * b + 1) ∷ (slice_index ws (4 * b + 2) ∷ (slice_index ws (4 * b + 3) ∷ [])));
+  at = slice_index ws (4 * b) ∷ slice_index ws (4 * b + 1) ∷ slice_index ws (4 * b + 2) ∷ slice_index ws (4 * b + 3) ∷ [];
 }
 
 module _ {A B : Type 0} (ma : Meaning A) (mb : Meaning B) where

@@ -1,5 +1,5 @@
 -- The order promise, for a run that began with making k: what holds of its trail, its operations and its messages.
-use Rattle.std.specs.Prelude.{◌≡◌, ℕ, ◌<◌, true, cond, List, is_some, Some, None, Option, ◌==◌, slice_index}
+use Rattle.std.specs.Prelude.{◌≡◌, ℕ, ◌<◌, true, if◌then◌else◌, List, is_some, Some, None, Option, ◌==◌, slice_index}
 use Rattle.device.specs.Meaning.{Meaning}
 use Rattle.message.specs.Checks.{well_formed}
 use Rattle.message.specs.Nodes.{is_device}
@@ -26,11 +26,13 @@ Stands xs x = (i : ℕ) × (slice_get xs i ≡ Some x)
 
 -- a. Two entries of the trail have equal stamps, or the same party and sequence number, only if they are the same.
 abbrev pub OwnStamps : List Entry → Type 0
-OwnStamps trail = (i j : ℕ) (e f : Entry) → slice_get trail i ≡ Some e → slice_get trail j ≡ Some f → e.stamp ≡ f.stamp → i ≡ j
+OwnStamps trail =
+    (i j : ℕ) (e f : Entry) → slice_get trail i ≡ Some e → slice_get trail j ≡ Some f → e.stamp ≡ f.stamp → i ≡ j
 
 pub record Unique (trail : List Entry) : Type 0 where
   pub stamps : OwnStamps trail
-  pub numbers : (i j : ℕ) (e f : Entry) → slice_get trail i ≡ Some e → slice_get trail j ≡ Some f → e.party ≡ f.party → e.sequence ≡ f.sequence → i ≡ j
+  pub numbers : (i j : ℕ) (e f : Entry) → slice_get trail i ≡ Some e → slice_get trail j ≡ Some f
+      → e.party ≡ f.party → e.sequence ≡ f.sequence → i ≡ j
 
 -- An operation is done once the trail has its party and sequence number.
 pub record Done (trail : List Entry) (party sequence : ℕ) : Type 0 where
@@ -40,7 +42,7 @@ pub record Done (trail : List Entry) (party sequence : ℕ) : Type 0 where
   pub numbered : entry.sequence ≡ sequence
 
 abbrev pub party_of : ℕ → Party
-party_of n = cond (is_device n) Device Processor
+party_of n = if is_device n then Device else Processor
 
 -- The rule orders x before y, two operations of one party.
 pub record ComesFirst (x y : Issued) : Type 0 where
@@ -58,9 +60,9 @@ module _ {A B : Type 0} (ma : Meaning A) (mb : Meaning B) (k : Making A B) where
   -- The value of an address at the making.
   abbrev pub at_making : Address → ℕ
   at_making a =
-      cond (a.space == 0) (slice_index k.words a.word)
-      (cond (a.space == 1) (slice_index (ma.words k.first) a.word)
-      (slice_index (mb.words k.second) a.word))
+      if a.space == 0 then slice_index k.words a.word
+      else if a.space == 1 then slice_index (ma.words k.first) a.word
+      else slice_index (mb.words k.second) a.word
 
   abbrev pub sourced : Address → Option (ℕ × ℕ) → ℕ
   sourced a None = at_making a

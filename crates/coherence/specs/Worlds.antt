@@ -46,71 +46,16 @@ module _ {A B : Type 0} where
   home_at w b = slice_index_or w.homes b no_home
 
   abbrev pub with_processor : World A B → ℕ → Processor ℕ → World A B
-  with_processor w p s = record {
-    fit = w.fit;
-    count = w.count;
-    processors = slice_set w.processors p s;
-    homes = w.homes;
-    first = w.first;
-    second = w.second;
-    messages = w.messages;
-    trail = w.trail;
-    message_room = w.message_room;
-    trail_room = w.trail_room;
-  }
+  with_processor w p s = record w { processors = slice_set w.processors p s }
 
   abbrev pub with_home : World A B → ℕ → Home ℕ → World A B
-  with_home w b h = record {
-    fit = w.fit;
-    count = w.count;
-    processors = w.processors;
-    homes = slice_set w.homes b h;
-    first = w.first;
-    second = w.second;
-    messages = w.messages;
-    trail = w.trail;
-    message_room = w.message_room;
-    trail_room = w.trail_room;
-  }
+  with_home w b h = record w { homes = slice_set w.homes b h }
 
   abbrev pub with_first : World A B → Bridge A ℕ → World A B
-  with_first w d = record {
-    fit = w.fit;
-    count = w.count;
-    processors = w.processors;
-    homes = w.homes;
-    first = d;
-    second = w.second;
-    messages = w.messages;
-    trail = w.trail;
-    message_room = w.message_room;
-    trail_room = w.trail_room;
-  }
+  with_first w d = record w { first = d }
 
   abbrev pub with_second : World A B → Bridge B ℕ → World A B
-  with_second w d = record {
-    fit = w.fit;
-    count = w.count;
-    processors = w.processors;
-    homes = w.homes;
-    first = w.first;
-    second = d;
-    messages = w.messages;
-    trail = w.trail;
-    message_room = w.message_room;
-    trail_room = w.trail_room;
-  }
+  with_second w d = record w { second = d }
 
   abbrev pub with_lists : World A B → List (Message ℕ) → List Entry → World A B
-  with_lists w ms es = record {
-    fit = w.fit;
-    count = w.count;
-    processors = w.processors;
-    homes = w.homes;
-    first = w.first;
-    second = w.second;
-    messages = ms;
-    trail = es;
-    message_room = w.message_room;
-    trail_room = w.trail_room;
-  }
+  with_lists w ms es = record w { messages = ms; trail = es }

@@ -10,17 +10,19 @@ use bridge::fault::DeviceFault;
 use processor::refusal::Refusal;
 use trail::fault::SourceFault;
 
-#[derive(Clone, Copy)]
+/// What forbids a call among the waiting messages.
+#[derive(Clone, Copy, Debug, PartialEq, Eq)]
 pub enum NetworkFault {
     /// An older message of the pair waits, at this place.
     OlderWaits(usize),
     /// The message at this place has no rule at its receiver.
     NoRule(usize),
-    /// More messages would wait than there is room for.
+    /// More messages would wait than there is room for: the room.
     MessagesFull(usize),
 }
 
-#[derive(Clone, Copy)]
+/// What forbids a call at the board, its processors or its trail.
+#[derive(Clone, Copy, Debug, PartialEq, Eq)]
 pub enum BoardFault {
     /// The board was made outside its figures.
     NotFit,
@@ -28,27 +30,31 @@ pub enum BoardFault {
     Argument(u32),
     /// A processor refuses.
     Refused(Refusal),
-    /// The trail has no room for an entry.
+    /// The trail has no room for an entry: its room.
     TrailFull(usize),
     /// A number of this node would pass its end.
     NumberEnds(u32),
 }
 
-#[derive(Clone, Copy)]
+/// Where a call was refused.
+#[derive(Clone, Copy, Debug, PartialEq, Eq)]
 pub enum Layer {
     Device,
     Network,
     Board,
 }
 
-#[derive(Clone, Copy)]
+/// Why a call was refused. Nothing has changed then.
+#[derive(Clone, Copy, Debug, PartialEq, Eq)]
 pub enum Fault {
+    /// A device's wish is not done.
     Device(DeviceFault),
     Network(NetworkFault),
     Board(BoardFault),
 }
 
 impl Fault {
+    /// The layer that refused.
     pub fn layer(self) -> Layer
         ensures { result ≡ fault_layer self }
     {
@@ -59,6 +65,7 @@ impl Fault {
         }
     }
 
+    /// The number of the reason, from 1 to 16.
     pub fn number(self) -> u32
         ensures { result ≡ fault_number self }
     {
@@ -75,6 +82,7 @@ impl Fault {
         }
     }
 
+    /// What the reason is about: a place, an argument, a block, a device, a node or a room, and 0 where there is none.
     pub fn place(self) -> usize
         ensures { result ≡ fault_place self }
     {

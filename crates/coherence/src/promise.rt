@@ -14,9 +14,9 @@ pub fn messages_are_formed<A: Device, B: Device>()
     ensures { MessagesAreFormed A.Device.meaning B.Device.meaning }
 {}
 
-/// The order promise, for every two devices, over every making and every list of calls: entries
-/// have their own stamps and numbers; operations that the tables order are done in order, with rising stamps; every read got
-/// the latest write below it, and told it; and every waiting message has a rule.
+/// The order promise, for every two devices, over every making and every list of calls: entries have their own stamps
+/// and numbers; operations that the tables order are done in order, with rising stamps; every read got the latest write
+/// below it, and told it; and every waiting message has a rule.
 pub fn order_is_kept<A: Device, B: Device>()
     ensures { OrderPromise A.Device.meaning B.Device.meaning }
 {}

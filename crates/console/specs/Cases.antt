@@ -1,9 +1,9 @@
 -- Worked cases, computed: a windowed plate setter and a scanner on a board of two processors with zero memory.
-use Rattle.std.specs.Prelude.{◌≡◌, ℕ, true, List, [], ◌∷◌, map, replicate, Some, None, Ok, Err, Option, slice_index_or}
+use Rattle.std.specs.Prelude.{◌≡◌, ℕ, true, List, [], ◌∷◌, ◌++◌, map, replicate, Some, None, Ok, Err, Option, slice_index_or}
 use Rattle.bridge.specs.declared.fault.DeviceFault.TheVariants.{NoWish, BadWish, MustWait}
-use Rattle.sweepers.specs.Plates.{plate_meaning, blank_plate}
+use Rattle.sweepers.specs.Plates.{blank_plate}
 use Rattle.sweepers.specs.Scanners.{Scanner, scanner_meaning, blank_scanner}
-use Rattle.device.specs.Windows.{window, window_meaning}
+use Rattle.device.specs.Windows.{window}
 use Rattle.message.specs.Messages.{no_message}
 use Rattle.message.specs.declared.kind.Kind.TheVariants as kind
 use Rattle.ordering.specs.Clocks.{passed}
@@ -25,7 +25,7 @@ use Rattle.coherence.specs.declared.fault.BoardFault.TheVariants.{NotFit, Argume
 use Rattle.coherence.specs.declared.fault.Fault.{Fault}
 use Rattle.coherence.specs.declared.fault.Fault.TheVariants.{Device, Network, Board}
 use Rattle.coherence.specs.declared.fault.NetworkFault.TheVariants.{OlderWaits, NoRule, MessagesFull}
-use Rattle.console.specs.Program.{Plates}
+use Rattle.console.specs.Program.{Plates, plates_meaning}
 
 -- So many processors, a start clock, and the rooms for messages and for the trail.
 abbrev made_of : ℕ → ℕ → ℕ → ℕ → Making Plates Scanner
@@ -43,18 +43,21 @@ abbrev making : ℕ → Making Plates Scanner
 making start = made_of 2 start 64 512
 
 abbrev pub answer_on : Making Plates Scanner → List Call → Call → Answer
-answer_on k calls c = (step (window_meaning plate_meaning) scanner_meaning c (run (window_meaning plate_meaning) scanner_meaning k calls).world).0
+answer_on k calls c = (step plates_meaning scanner_meaning c (run plates_meaning scanner_meaning k calls).world).0
 
 abbrev pub world_after : ℕ → List Call → World Plates Scanner
-world_after start calls = (run (window_meaning plate_meaning) scanner_meaning (making start) calls).world
+world_after start calls = (run plates_meaning scanner_meaning (making start) calls).world
 
 abbrev pub answer_after : ℕ → List Call → Call → Answer
-answer_after start calls c = (step (window_meaning plate_meaning) scanner_meaning c (world_after start calls)).0
+answer_after start calls c = answer_on (making start) calls c
 
 -- A refusal by its number and place.
 abbrev pub refused_with : Answer → Option (ℕ × ℕ)
 refused_with (Ok v) = None
 refused_with (Err f) = Some (fault_number f, fault_place f)
+
+abbrev pub refused_after : ℕ → List Call → Call → Option (ℕ × ℕ)
+refused_after start calls c = refused_with (answer_after start calls c)
 
 abbrev pub clock_of : ℕ → ℕ → Clock ℕ
 clock_of g l = record { global = g; local = l }
@@ -70,23 +73,20 @@ abbrev pub owned : List Call
 owned = Request 0 0 2 ∷ Deliver 0 ∷ Deliver 0 ∷ []
 
 abbrev pub stored : List Call
-stored = Request 0 0 2 ∷ Deliver 0 ∷ Deliver 0 ∷ Store 0 0 7 ∷ []
+stored = owned ++ (Store 0 0 7 ∷ [])
 
 -- Processor 1's GETS reaches the home before processor 0's TAKEN.
 abbrev pub too_early : List Call
-too_early = Request 0 0 2 ∷ Deliver 0 ∷ Deliver 0 ∷ Store 0 0 7 ∷ Request 1 0 1 ∷ Deliver 1 ∷ []
+too_early = stored ++ (Request 1 0 1 ∷ Deliver 1 ∷ [])
 
 -- It asks again after TAKEN: GETS, DOWN, ACK, S-DATA. Then both load.
 abbrev pub shared : List Call
-shared =
-    Request 0 0 2 ∷ Deliver 0 ∷ Deliver 0 ∷ Store 0 0 7 ∷ Deliver 0 ∷ Request 1 0 1 ∷ Deliver 0 ∷ Deliver 0 ∷ Deliver 0 ∷ Deliver 0 ∷ []
+shared = stored ++ (Deliver 0 ∷ Request 1 0 1 ∷ Deliver 0 ∷ Deliver 0 ∷ Deliver 0 ∷ Deliver 0 ∷ [])
 
 abbrev pub loaded : List Call
-loaded =
-    Request 0 0 2 ∷ Deliver 0 ∷ Deliver 0 ∷ Store 0 0 7 ∷ Deliver 0 ∷ Request 1 0 1 ∷ Deliver 0 ∷ Deliver 0 ∷ Deliver 0 ∷ Deliver 0
-    ∷ Load 1 0 ∷ Load 0 0 ∷ []
+loaded = shared ++ (Load 1 0 ∷ Load 0 0 ∷ [])
 
--- Processor 0 tells the plate setter first block 15, count 2, processor 0 and command 1; it acts once.
+-- Processor 0 writes to the plate setter first block 15, count 2, processor 0 and command 1.
 abbrev pub sweeping : List Call
 sweeping =
     StIo 0 0 1 15 ∷ Deliver 0 ∷ StIo 0 0 2 2 ∷ Deliver 0 ∷ StIo 0 0 3 0 ∷ Deliver 0 ∷ StIo 0 0 0 1 ∷ Deliver 0 ∷ []
@@ -94,9 +94,10 @@ sweeping =
 -- The sixteen faults in the order of their numbers, each with the place p, if it has one.
 abbrev pub faults_at : ℕ → List Fault
 faults_at p =
-    Board NotFit ∷ Board (Argument p) ∷ Board (Refused (NotHeld p)) ∷ Board (Refused (Unfit p)) ∷ Board (Refused (RequestOut p))
-    ∷ Board (Refused (Awaits p)) ∷ Board (Refused (SlotTaken p)) ∷ Board (Refused (NotCollectable p)) ∷ Network (OlderWaits p)
-    ∷ Network (NoRule p) ∷ Device (NoWish p) ∷ Device (BadWish p) ∷ Device (MustWait p) ∷ Network (MessagesFull p)
+    Board NotFit ∷ Board (Argument p) ∷ Board (Refused (NotHeld p)) ∷ Board (Refused (Unfit p))
+    ∷ Board (Refused (RequestOut p)) ∷ Board (Refused (Awaits p)) ∷ Board (Refused (SlotTaken p))
+    ∷ Board (Refused (NotCollectable p)) ∷ Network (OlderWaits p) ∷ Network (NoRule p)
+    ∷ Device (NoWish p) ∷ Device (BadWish p) ∷ Device (MustWait p) ∷ Network (MessagesFull p)
     ∷ Board (TrailFull p) ∷ Board (NumberEnds p) ∷ []
 
 pub record WorkedCases : Type 0 where
@@ -117,14 +118,17 @@ pub record WorkedCases : Type 0 where
   pub owner_loads : answer_after 0 shared (Load 0 0) ≡ Ok (Some 7)
   pub sharer_stamped : stamp_at (world_after 0 loaded) 1 ≡ Some (stamp 5 1 1)
   pub owner_stamped : stamp_at (world_after 0 loaded) 2 ≡ Some (stamp 3 1 0)
-  pub first_argument_told : map (λ c. refused_with (answer_after 0 [] c)) (Request 9 99 9 ∷ StIo 9 9 99 0 ∷ Load 9 99 ∷ []) ≡ replicate 3 (Some (2, 1))
-  pub second_argument_told : map (λ c. refused_with (answer_after 0 [] c)) (Request 0 99 9 ∷ StIo 0 9 99 0 ∷ Load 0 99 ∷ []) ≡ replicate 3 (Some (2, 2))
-  pub third_argument_told : map (λ c. refused_with (answer_after 0 [] c)) (Request 0 0 9 ∷ StIo 0 0 99 0 ∷ []) ≡ replicate 2 (Some (2, 3))
-  pub unfit_told_first : refused_with (answer_on (made_of 5 0 64 512) [] (Load 9 99)) ≡ Some (1, 0)
+  pub first_argument_refused :
+      map (refused_after 0 []) (Request 9 99 9 ∷ StIo 9 9 99 0 ∷ Load 9 99 ∷ []) ≡ replicate 3 (Some (2, 1))
+  pub second_argument_refused :
+      map (refused_after 0 []) (Request 0 99 9 ∷ StIo 0 9 99 0 ∷ Load 0 99 ∷ []) ≡ replicate 3 (Some (2, 2))
+  pub third_argument_refused : map (refused_after 0 []) (Request 0 0 9 ∷ StIo 0 0 99 0 ∷ []) ≡ replicate 2 (Some (2, 3))
+  pub unfit_comes_first : refused_with (answer_on (made_of 5 0 64 512) [] (Load 9 99)) ≡ Some (1, 0)
   pub messages_full : refused_with (answer_on (made_of 2 0 1 512) (Request 0 0 1 ∷ []) (Request 1 0 1)) ≡ Some (14, 1)
-  pub trail_full_told_first : refused_with (answer_on (made_of 2 1000000000 64 0) (StIo 0 0 1 9 ∷ []) (Deliver 0)) ≡ Some (15, 0)
-  pub older_goes_first : refused_with (answer_after 0 (StIo 0 0 1 9 ∷ StIo 0 0 1 8 ∷ []) (Deliver 1)) ≡ Some (9, 0)
-  pub number_ends : refused_with (answer_after 1000000000 (StIo 0 0 1 9 ∷ []) (Deliver 0)) ≡ Some (16, 4)
+  pub trail_full_comes_first :
+      refused_with (answer_on (made_of 2 1000000000 64 0) (StIo 0 0 1 9 ∷ []) (Deliver 0)) ≡ Some (15, 0)
+  pub older_goes_first : refused_after 0 (StIo 0 0 1 9 ∷ StIo 0 0 1 8 ∷ []) (Deliver 1) ≡ Some (9, 0)
+  pub number_ends : refused_after 1000000000 (StIo 0 0 1 9 ∷ []) (Deliver 0) ≡ Some (16, 4)
   pub end_itself_is_had : answer_after 999999999 (StIo 0 0 1 9 ∷ []) (Deliver 0) ≡ Ok None
   pub last_block_asked : answer_after 0 sweeping (Act 0) ≡ Ok None
-  pub block_past_the_last : refused_with (answer_after 0 (StIo 0 0 1 15 ∷ Deliver 0 ∷ StIo 0 0 2 2 ∷ Deliver 0 ∷ StIo 0 0 3 0 ∷ Deliver 0 ∷ StIo 0 0 0 1 ∷ Deliver 0 ∷ Act 0 ∷ []) (Act 0)) ≡ Some (12, 0)
+  pub block_past_the_last : refused_after 0 (sweeping ++ (Act 0 ∷ [])) (Act 0) ≡ Some (12, 0)

@@ -1,8 +1,8 @@
--- What a run of a script tells: an outcome a line, then an entry a line, and last the control sum.
+-- The report of a run of a script: an outcome a line, then an entry a line, and last the control sum.
 use Rattle.std.specs.Prelude.{ℕ, ◌+◌, List, [], ◌∷◌, ◌++◌, codes, decimal, slice_index}
 use Rattle.ordering.specs.Operations.{name_of}
 use Rattle.queries.specs.Sums.{control_sum}
-use Rattle.script.specs.Told.{tab, newline, outcome_line}
+use Rattle.script.specs.Outcomes.{tab, newline, outcome_line}
 use Rattle.script.specs.declared.outcome.Outcome.{Outcome}
 use Rattle.trail.specs.declared.entry.Entry.{Entry}
 

@@ -9,7 +9,7 @@ pub fn worked_cases_come_out()
     ensures { WorkedCases }
 {}
 
-/// A word that a processor stores to a device and reads back, told byte by byte; an empty script; a board that does not fit.
+/// A word that a processor stores to a device and reads back, byte by byte; an empty script; a board that does not fit.
 #[tactic(auto, using(crate::proofs::Working::worked))]
 pub fn worked_scripts_come_out()
     ensures { WorkedScripts }

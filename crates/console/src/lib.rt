@@ -1,4 +1,4 @@
-//! The program's own board: which devices it has, what it tells of a script, and worked cases and scripts on it.
+//! The program's own board: which devices it has, what it writes for a script, and worked cases and scripts on it.
 
 #![tactic(auto)]
 

@@ -1,7 +1,7 @@
-//! What a run of a script tells: an outcome a line, then an entry a line, and last the control sum.
+//! The report of a run of a script: an outcome a line, then an entry a line, and last the control sum.
 
-ghost use Rattle.std.specs.Prelude.{◌≡◌, IfOk, string_bytes};
-ghost use Rattle.console.specs.Report.{report};
+ghost use Rattle.std.specs.Prelude.{◌≡◌, Some, IfOk, string_bytes};
+ghost use Rattle.console.specs.Report.{row_line, outcome_lines, rows_from, report};
 
 use queries::sum::control_sum;
 use script::outcome::Outcome;
@@ -10,7 +10,7 @@ use std::fmt;
 use trail::entry::Entry;
 
 /// An entry of the trail and its number.
-#[derive(Clone, Copy)]
+#[derive(Clone, Copy, Debug, PartialEq, Eq)]
 pub struct Row {
     pub number: usize,
     pub entry: Entry,
@@ -18,9 +18,6 @@ pub struct Row {
 
 /// Number, party, sequence number, operation, space, place, first value, global, local, node.
 impl fmt::Display for Row {
-    ghost use Rattle.std.specs.Prelude.{Some};
-    ghost use Rattle.console.specs.Report.{row_line};
-
     ghost output = { λ row. Some (row_line row.number row.«entry») };
 
     fn fmt<W: fmt::Write>(&self, f: &mut fmt::Formatter<W>) -> fmt::Result {
@@ -48,18 +45,13 @@ impl fmt::Display for Row {
 
 // One loop a type, since a loop's proof speaks of all that was written before it.
 #[derive(Clone, Copy)]
-struct OutcomeLines<'a> {
-    outcomes: &'a [Outcome],
-}
+struct OutcomeLines<'a>(&'a [Outcome]);
 
 impl fmt::Display for OutcomeLines<'_> {
-    ghost use Rattle.std.specs.Prelude.{Some};
-    ghost use Rattle.console.specs.Report.{outcome_lines};
-
-    ghost output = { λ lines. Some (outcome_lines lines.outcomes.now) };
+    ghost output = { λ lines. Some (outcome_lines lines.0.now) };
 
     fn fmt<W: fmt::Write>(&self, f: &mut fmt::Formatter<W>) -> fmt::Result {
-        for outcome in self.outcomes {
+        for outcome in self.0 {
             writeln!(f, "{outcome}")?;
         }
         Ok(())
@@ -67,18 +59,13 @@ impl fmt::Display for OutcomeLines<'_> {
 }
 
 #[derive(Clone, Copy)]
-struct Rows<'a> {
-    trail: &'a [Entry],
-}
+struct Rows<'a>(&'a [Entry]);
 
 impl fmt::Display for Rows<'_> {
-    ghost use Rattle.std.specs.Prelude.{Some};
-    ghost use Rattle.console.specs.Report.{rows_from};
-
-    ghost output = { λ rows. Some (rows_from 0 rows.trail.now) };
+    ghost output = { λ rows. Some (rows_from 0 rows.0.now) };
 
     fn fmt<W: fmt::Write>(&self, f: &mut fmt::Formatter<W>) -> fmt::Result {
-        for (number, entry) in self.trail.iter().enumerate() {
+        for (number, entry) in self.0.iter().enumerate() {
             let row = Row {
                 number,
                 entry: *entry,
@@ -96,22 +83,17 @@ struct Report<'o, 't> {
 }
 
 impl fmt::Display for Report<'_, '_> {
-    ghost use Rattle.std.specs.Prelude.{Some};
-    ghost use Rattle.console.specs.Report.{report};
-
-    ghost output = { λ told. Some (report told.outcomes.now told.trail.now) };
+    ghost output = { λ run. Some (report run.outcomes.now run.trail.now) };
 
     fn fmt<W: fmt::Write>(&self, f: &mut fmt::Formatter<W>) -> fmt::Result {
-        let outcomes = OutcomeLines {
-            outcomes: self.outcomes,
-        };
-        let rows = Rows { trail: self.trail };
+        let outcomes = OutcomeLines(self.outcomes);
+        let rows = Rows(self.trail);
         let sum = control_sum(self.trail);
         writeln!(f, "{outcomes}{rows}sum\t{sum}")
     }
 }
 
-/// The whole text.
+/// The report of a run, as one text.
 pub fn report_of(heap: Global, outcomes: &[Outcome], trail: &[Entry]) -> Result<String, AllocError>
     ensures { IfOk result (λ text. string_bytes text ≡ report outcomes.now trail.now) }
 {

@@ -38,8 +38,8 @@ fn sent(outcome: Option<Outcome>) -> Result<Message, Fail> {
     Ok(first.ok_or("nothing sent")?)
 }
 
-// Told to fetch block 0, by a processor whose clock was 20.
-fn told() -> Bridge<PlateSetter> {
+// Commanded to fetch block 0, by a processor whose clock was 20.
+fn commanded() -> Bridge<PlateSetter> {
     let mut bridge = Bridge::new(5, PlateSetter::new());
     let _ = deliver(&mut bridge, message(Kind::Wio, 0, 6, 1, 0));
     let _ = deliver(&mut bridge, message(Kind::Wio, 0, 4, 1, 20));
@@ -48,7 +48,7 @@ fn told() -> Bridge<PlateSetter> {
 
 #[test]
 fn a_refused_request_goes_out_with_the_clock_now(rt: HostRuntime) -> Result<(), Fail> {
-    let mut bridge = told();
+    let mut bridge = commanded();
     let request = sent(act(&mut bridge))?;
     assert_eq!(rt; request.kind, Kind::Rblk);
     assert_eq!(rt; request.clock, 21);
@@ -64,7 +64,7 @@ fn a_refused_request_goes_out_with_the_clock_now(rt: HostRuntime) -> Result<(), 
 
 #[test]
 fn the_interrupt_waits_for_the_block(rt: HostRuntime) -> Result<(), Fail> {
-    let mut bridge = told();
+    let mut bridge = commanded();
     let _ = sent(act(&mut bridge))?;
     let fault = bridge
         .act(1, 2)

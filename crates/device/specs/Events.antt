@@ -22,17 +22,13 @@ after m s (e ∷ es) = after m (follow m s e) es
 -- How many wishes were accepted.
 abbrev pub accepted_in : List Event → ℕ
 accepted_in [] = 0
-accepted_in (reads p ∷ es) = accepted_in es
-accepted_in (writes p v ∷ es) = accepted_in es
 accepted_in (accepts w ∷ es) = suc (accepted_in es)
-accepted_in (lands b ws ∷ es) = accepted_in es
+accepted_in (e ∷ es) = accepted_in es
 
 -- The words after a call, and after calls one after the other: only a write changes them.
 abbrev pub rewritten : List ℕ → Event → List ℕ
-rewritten ws (reads p) = ws
 rewritten ws (writes p v) = slice_set ws p v
-rewritten ws (accepts w) = ws
-rewritten ws (lands b row) = ws
+rewritten ws e = ws
 
 abbrev pub written : List ℕ → List Event → List ℕ
 written ws [] = ws

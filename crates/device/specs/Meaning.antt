@@ -1,5 +1,5 @@
 -- What a device means: the words and the wish that are read from its state, and the states that follow.
-use Rattle.std.specs.Prelude.{◌≡◌, ℕ, cond, List, length, Some, Ok, Err, Option, Result, nat_lt, slice_index, slice_set}
+use Rattle.std.specs.Prelude.{◌≡◌, ℕ, List, length, Some, Ok, Err, Option, Result, if◌then◌else◌, nat_lt, slice_index, slice_set}
 use Rattle.ordering.specs.declared.operation.Words.{Words}
 use Rattle.device.specs.declared.meaning.Wish.{Wish}
 use Rattle.device.specs.declared.meaning.NoWord.{NoWord}
@@ -12,7 +12,8 @@ pub record Meaning (S : Type 0) : Type 0 where
   pub accepted : S → ℕ → S
   pub landed : S → ℕ → Words → S
 
--- Writing puts a value at its place. Nothing else changes a word, and nothing changes their number. A wish has four words.
+-- Writing puts a value at its place. Nothing else changes a word, and nothing changes their number. A wish has four
+-- words.
 pub record Laws {S : Type 0} (m : Meaning S) : Type 0 where
   pub writing_words : (s : S) (p v : ℕ) → m.words (m.writing s p v) ≡ slice_set (m.words s) p v
   pub reading_words : (s : S) (p : ℕ) → m.words (m.reading s p) ≡ m.words s
@@ -25,13 +26,13 @@ abbrev pub no_word : {R : Type 0} → ℕ → Result R NoWord
 no_word p = Err (record { place = p })
 
 abbrev pub read_exit : {S : Type 0} → Meaning S → S → ℕ → S
-read_exit m s p = cond (nat_lt p (length (m.words s))) (m.reading s p) s
+read_exit m s p = if nat_lt p (length (m.words s)) then m.reading s p else s
 
 abbrev pub read_answer : {S : Type 0} → Meaning S → S → ℕ → Result ℕ NoWord
-read_answer m s p = cond (nat_lt p (length (m.words s))) (Ok (slice_index (m.words s) p)) (no_word p)
+read_answer m s p = if nat_lt p (length (m.words s)) then Ok (slice_index (m.words s) p) else no_word p
 
 abbrev pub write_exit : {S : Type 0} → Meaning S → S → ℕ → ℕ → S
-write_exit m s p v = cond (nat_lt p (length (m.words s))) (m.writing s p v) s
+write_exit m s p v = if nat_lt p (length (m.words s)) then m.writing s p v else s
 
 abbrev pub write_answer : {S : Type 0} → Meaning S → S → ℕ → Result (Unit {0}) NoWord
-write_answer m s p = cond (nat_lt p (length (m.words s))) (Ok tt) (no_word p)
+write_answer m s p = if nat_lt p (length (m.words s)) then Ok tt else no_word p

@@ -1,5 +1,5 @@
 -- A window over any device: its meaning, from the meaning of the device below.
-use Rattle.std.specs.Prelude.{◌≡◌, ℕ, ◌+◌, ◌-◌, true, false, cond, ◌&&◌, ◌||◌, ltb, List, length, take, drop, Some, None, Option, nat_le, nat_lt, slice_index, slice_index_or}
+use Rattle.std.specs.Prelude.{◌≡◌, ℕ, ◌+◌, ◌-◌, true, false, ◌&&◌, ◌||◌, ltb, List, length, take, drop, Some, None, Option, if◌then◌else◌, nat_le, nat_lt, slice_index, slice_index_or}
 use Rattle.ordering.specs.declared.operation.Operation.TheVariants.{LdIo, StIo}
 use Rattle.ordering.specs.Operations.{is}
 use Rattle.device.specs.declared.meaning.Wish.{Wish}
@@ -35,15 +35,12 @@ Shows first size ws p (Some b) = ShownAt first size ws p b
 
 -- Where a word of the device below is seen; one that is not shown stands at 64.
 abbrev pub seen_at : ℕ → ℕ → ℕ → ℕ
-seen_at first count p = cond (nat_le first p && nat_lt (p - first) count) (p - first) 64
+seen_at first count p = if nat_le first p && nat_lt (p - first) count then p - first else 64
 
 -- A wished LDio or STio goes to the word as the window shows it; every other wish is handed on.
 abbrev pub moved : ℕ → ℕ → Wish → Wish
-moved first count h = record {
-  operation = h.operation;
-  place = cond (is LdIo h.operation || is StIo h.operation) (seen_at first count h.place) h.place;
-  processor = h.processor;
-  words = h.words;
+moved first count h = record h {
+  place = if is LdIo h.operation || is StIo h.operation then seen_at first count h.place else h.place;
 }
 
 abbrev pub moved_wish : ℕ → ℕ → Option Wish → Option Wish

@@ -29,6 +29,7 @@ impl Wish {
         }
     }
 
+    /// An INT to a processor, with the value that it reports.
     pub fn interrupt(processor: u32, value: u32) -> Wish
         ensures { result ≡ interrupt_wish processor value }
     {
@@ -47,6 +48,7 @@ pub struct NoWord {
     pub place: u32,
 }
 
+/// Words at places, and operations that it wishes for.
 pub trait Device {
     ghost State: { Type 0 };
 

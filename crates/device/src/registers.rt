@@ -5,6 +5,7 @@ ghost use Rattle.device.specs.Registers.{zeros, read_of, after_write, write_of};
 
 use crate::meaning::NoWord;
 
+/// The words of a device that has `N`.
 #[derive(Clone, Copy, Debug, PartialEq, Eq)]
 pub struct Registers<const N: usize> {
     pub at: [u32; N],
@@ -18,6 +19,7 @@ impl<const N: usize> Registers<N> {
         Registers { at: [0; N] }
     }
 
+    /// How many words there are.
     pub fn len(&self) -> usize
         ensures words { result ≡ length self.now.at }
         ensures size { result ≡ N }
@@ -25,12 +27,14 @@ impl<const N: usize> Registers<N> {
         self.at.as_slice().len()
     }
 
+    /// The word at a place, unless the place is past the last word.
     pub fn read(&self, place: u32) -> Result<u32, NoWord>
         ensures { result ≡ read_of self.now place }
     {
         self.at.get(place as usize).copied().ok_or(NoWord { place })
     }
 
+    /// Puts a value at a place, unless the place is past the last word.
     pub fn write(&mut self, place: u32, value: u32) -> Result<(), NoWord>
         ensures exit { self.new ≡ after_write self.old place value }
         ensures answer { result ≡ write_of self.old place }

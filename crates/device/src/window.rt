@@ -8,11 +8,12 @@ ghost use Rattle.device.specs.Showing.{window_laws};
 use crate::meaning::{Device, NoWord, Wish};
 use ordering::operation::{Operation, Words};
 
-// By rule the wish of a hidden word goes out with a place, so it is a number and no `None`.
+// The wish of a word that is not shown goes out with a place all the same, so this is a number and no `None`.
 /// Where a word stands that the window does not show: past the words of any device.
 const NOT_SHOWN: u32 = 64;
 
-#[derive(Drop)]
+/// Shows `size` words of a device from `first`, and hands on all else.
+#[derive(Debug, Drop, PartialEq, Eq)]
 pub struct Window<D> {
     device: D,
     first: u32,
@@ -64,7 +65,8 @@ impl<D: Device> Window<D> {
     // Where the device below has a word that is shown.
     #[tactic(auto, using(crate::specs::Showing::shown_at))]
     fn place_below(&self, place: u32) -> Option<u32>
-        ensures { Shows self.now.first self.now.size (D.Device.meaning.words (D.Device.state self.now.device)) place result }
+        ensures { Shows self.now.first self.now.size (D.Device.meaning.words (D.Device.state self.now.device))
+            place result }
     {
         let count = self.device.count();
         if place < shown_count(self.first, self.size, count) {

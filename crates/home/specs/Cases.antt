@@ -17,17 +17,8 @@ exchange h b [] = []
 exchange h b (m ∷ ms) = elim (received h b m) [ None ↦ exchange h b ms | Some x ↦ sent x.sent ++ exchange x.next b ms ]
 
 abbrev pub with_words : Kind → ℕ → ℕ → Words → ℕ → Bool → Option Kind → Message ℕ
-with_words k s r w c mark refused = record {
-  kind = k;
-  sender = s;
-  receiver = r;
-  place = 0;
-  words = w;
-  clock = c;
-  sequence = 0;
-  exclusive = mark;
-  refused = refused;
-}
+with_words k s r w c mark refused =
+    record (plain k s r 0) { words = w; clock = c; exclusive = mark; refused = refused }
 
 abbrev pub WorkedExchange : Type 0
 WorkedExchange =

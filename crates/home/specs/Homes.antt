@@ -1,5 +1,5 @@
 -- Homes: a new one, and one with numbers that may stand past their end.
-use Rattle.std.specs.Prelude.{ℕ, false, cond, Some, None, Option}
+use Rattle.std.specs.Prelude.{ℕ, false, if◌then◌else◌, Some, None, Option}
 use Rattle.ordering.specs.Clocks.{is_within}
 use Rattle.ordering.specs.declared.clock.Clock.{Clock}
 use Rattle.ordering.specs.declared.operation.Words.{Words}
@@ -19,4 +19,4 @@ abbrev pub new_home : ℕ → Words → Home ℕ
 new_home c w = home (record { global = c; local = 0 }) w new_directory
 
 abbrev pub settled_home : Home ℕ → Option (Home ℕ)
-settled_home h = cond (is_within h.clock) (Some h) None
+settled_home h = if is_within h.clock then Some h else None

@@ -1,6 +1,7 @@
 -- What a home keeps, whatever it is told. h is the home of block b, m the message that reaches it.
 use Rattle.std.specs.Prelude.{◌≡◌, ◌≢◌, ℕ, ◌+◌, ◌<◌, ◌≤◌, Bool, true, false, ◌&&◌, ◌||◌, is_some, IfSome, Some, None}
 use Rattle.message.specs.Kinds.{same_kind, is_request}
+use Rattle.message.specs.Messages.{plain}
 use Rattle.message.specs.Nodes.{home_node, is_device}
 use Rattle.message.specs.Reactions.{single, sent}
 use Rattle.message.specs.declared.kind.Kind.{Kind}
@@ -14,7 +15,7 @@ use Rattle.home.specs.Plans.{plan}
 use Rattle.home.specs.Reactions.{finished, heard_home, received}
 use Rattle.home.specs.Requests.{asks_down, operation_for}
 use Rattle.home.specs.Sets.{has}
-use Rattle.home.specs.declared.directory.Phase.TheVariants.{Free, Gathering, Replied}
+use Rattle.home.specs.declared.directory.Phase.TheVariants.{Free, Replied}
 use Rattle.home.specs.declared.directory.View.{View}
 use Rattle.home.specs.declared.directory.View.TheVariants.{Shared, Exclusive}
 use Rattle.home.specs.declared.machine.Home.{Home}
@@ -22,21 +23,17 @@ use Rattle.home.specs.declared.plan.Plan.TheVariants.{Ask}
 use Rattle.home.specs.Sets.{Processors}
 
 abbrev pub is_free : Home ℕ → Bool
-is_free h = elim h.directory.phase [ Free ↦ true | Gathering g ↦ false | Replied r ↦ false ]
+is_free h = elim h.directory.phase [ Free ↦ true | _ ↦ false ]
 
 -- NACK gives a request back with its words, its clock and its number.
 abbrev pub given_back : ℕ → Message ℕ → Message ℕ
-given_back b m = record {
-  kind = Nack;
-  sender = home_node b;
-  receiver = m.sender;
-  place = b;
-  words = m.words;
-  clock = m.clock;
-  sequence = m.sequence;
-  exclusive = false;
-  refused = Some m.kind;
-}
+given_back b m =
+    record (plain Nack (home_node b) m.sender b) {
+      words = m.words;
+      clock = m.clock;
+      sequence = m.sequence;
+      refused = Some m.kind;
+    }
 
 -- A home that is not free gives back every request, and changes nothing.
 abbrev pub RefusesWhileBusy : Type 0
@@ -52,7 +49,8 @@ pub record GivenBack (h : Home ℕ) (b : ℕ) (m : Message ℕ) (x : Reaction (H
 abbrev pub NacksGiveBack : Type 0
 NacksGiveBack =
     (h : Home ℕ) (b : ℕ) (m : Message ℕ)
-    → IfSome (received h b m) (λ x. AllByRecursion (λ n. same_kind n.kind Nack ≡ true → GivenBack h b m x n) (sent x.sent))
+    → IfSome (received h b m) (λ x. AllByRecursion (λ n. same_kind n.kind Nack ≡ true
+    → GivenBack h b m x n) (sent x.sent))
 
 -- Once busy, it is free again only by TAKEN from the requester, and that does free it.
 pub record FreedBy (h : Home ℕ) (m : Message ℕ) : Type 0 where
@@ -73,7 +71,8 @@ TakenFrees =
 abbrev pub TakenIsPassed : Type 0
 TakenIsPassed =
     (h : Home ℕ) (b : ℕ) (m : Message ℕ) → same_kind m.kind Taken ≡ true
-    → IfSome (received h b m) (λ x. (is_device m.sender ≡ true → h.clock.global < x.next.clock.global) × (is_device m.sender ≡ false → x.next.clock ≡ h.clock))
+    → IfSome (received h b m) (λ x. (is_device m.sender ≡ true
+    → h.clock.global < x.next.clock.global) × (is_device m.sender ≡ false → x.next.clock ≡ h.clock))
 
 -- Only requests, ACK and TAKEN have a rule.
 abbrev pub OtherKindsHaveNoRule : Type 0
@@ -90,8 +89,10 @@ ClockNeverGoesBack =
 pub record PassedOnce (h : Home ℕ) (x : Reaction (Home ℕ)) : Type 0 where
   pub own : h.clock.global < x.next.clock.global
   pub heard : (round_of h.directory).latest < x.next.clock.global
-  pub asked : is_some (operation_for (round_of h.directory).request.kind) ≡ true → (round_of h.directory).request.clock < x.next.clock.global
-  pub least : (n : ℕ) → h.clock.global ≤ n → (round_of h.directory).latest ≤ n → (round_of h.directory).request.clock ≤ n → x.next.clock.global ≤ n + 1
+  pub asked : is_some (operation_for (round_of h.directory).request.kind) ≡ true
+      → (round_of h.directory).request.clock < x.next.clock.global
+  pub least : (n : ℕ) → h.clock.global ≤ n → (round_of h.directory).latest ≤ n
+      → (round_of h.directory).request.clock ≤ n → x.next.clock.global ≤ n + 1
   pub stamped : IfSome x.entry (λ e. e.stamp.global ≡ x.next.clock.global)
   pub replied : AllByRecursion (λ n. n.clock ≡ x.next.clock.global) (sent x.sent)
   pub waits : x.next.directory.phase ≡ Replied (round_of h.directory).request
@@ -111,13 +112,14 @@ HearsAll = (h : Home ℕ) (m : Message ℕ) → Kept h m (heard_home h m)
 
 -- So whenever a home replies, the reply is above its own clock, above this message's and above those heard before it.
 abbrev pub has_replied : Home ℕ → Bool
-has_replied h = elim h.directory.phase [ Free ↦ false | Gathering g ↦ false | Replied r ↦ true ]
+has_replied h = elim h.directory.phase [ Replied r ↦ true | _ ↦ false ]
 
 pub record RepliedAbove (h : Home ℕ) (m : Message ℕ) (x : Reaction (Home ℕ)) : Type 0 where
   pub own : h.clock.global < x.next.clock.global
   pub this : (same_kind m.kind Ack || is_some (operation_for m.kind)) ≡ true → m.clock < x.next.clock.global
   pub earlier : same_kind m.kind Ack ≡ true → (round_of h.directory).latest < x.next.clock.global
-  pub request : same_kind m.kind Ack ≡ true → is_some (operation_for (round_of h.directory).request.kind) ≡ true → (round_of h.directory).request.clock < x.next.clock.global
+  pub request : same_kind m.kind Ack ≡ true → is_some (operation_for (round_of h.directory).request.kind) ≡ true
+      → (round_of h.directory).request.clock < x.next.clock.global
   pub stamped : IfSome x.entry (λ e. e.stamp.global ≡ x.next.clock.global)
   pub replied : AllByRecursion (λ n. n.clock ≡ x.next.clock.global) (sent x.sent)
 
@@ -141,19 +143,26 @@ WordsStay =
 -- Ownership is granted only to one that shares.
 abbrev pub GrantsToSharers : Type 0
 GrantsToSharers =
-    (v : View) (holders asked : Processors) (p : ℕ) → plan Upg v holders p ≡ Some (Ask asked) → (v ≡ Shared) × (has holders p ≡ true)
+    (v : View) (holders asked : Processors) (p : ℕ) → plan Upg v holders p ≡ Some (Ask asked)
+    → (v ≡ Shared) × (has holders p ≡ true)
 
 -- The owner of a block is asked for it whatever the request, and for one that does more than read each other holder is.
 pub record HoldersAreAsked : Type 0 where
-  pub owner : (k : Kind) (holders asked : Processors) (p : ℕ) → plan k Exclusive holders p ≡ Some (Ask asked) → asked ≡ holders
-  pub sharers : (k : Kind) (holders asked : Processors) (p q : ℕ) → plan k Shared holders p ≡ Some (Ask asked) → asks_down k ≡ false → q ≢ p → has holders q ≡ true → has asked q ≡ true
+  pub owner : (k : Kind) (holders asked : Processors) (p : ℕ) → plan k Exclusive holders p ≡ Some (Ask asked)
+      → asked ≡ holders
+  pub sharers : (k : Kind) (holders asked : Processors) (p q : ℕ) → plan k Shared holders p ≡ Some (Ask asked)
+      → asks_down k ≡ false → q ≢ p → has holders q ≡ true → has asked q ≡ true
 
 -- A device's write writes the words of its request; its read gets the words of the home, and the reply tells them.
 pub record ServesAsAsked (h : Home ℕ) (b : ℕ) : Type 0 where
-  pub written : same_kind (round_of h.directory).request.kind Wblk ≡ true → (finished h b).next.words ≡ (round_of h.directory).request.words
-  pub writes : same_kind (round_of h.directory).request.kind Wblk ≡ true → IfSome (finished h b).entry (λ e. e.values ≡ (round_of h.directory).request.words)
-  pub reads : same_kind (round_of h.directory).request.kind Rblk ≡ true → IfSome (finished h b).entry (λ e. e.values ≡ h.words)
-  pub told : same_kind (round_of h.directory).request.kind Rblk ≡ true → AllByRecursion (λ n. n.words ≡ h.words) (sent (finished h b).sent)
+  pub written : same_kind (round_of h.directory).request.kind Wblk ≡ true
+      → (finished h b).next.words ≡ (round_of h.directory).request.words
+  pub writes : same_kind (round_of h.directory).request.kind Wblk ≡ true
+      → IfSome (finished h b).entry (λ e. e.values ≡ (round_of h.directory).request.words)
+  pub reads : same_kind (round_of h.directory).request.kind Rblk ≡ true
+      → IfSome (finished h b).entry (λ e. e.values ≡ h.words)
+  pub carried : same_kind (round_of h.directory).request.kind Rblk ≡ true
+      → AllByRecursion (λ n. n.words ≡ h.words) (sent (finished h b).sent)
   pub issuer : IfSome (finished h b).entry (λ e. (e.party ≡ (round_of h.directory).request.requester) × (e.sequence ≡ (round_of h.directory).request.sequence))
 
 abbrev pub HomesServeAsAsked : Type 0

@@ -1,5 +1,5 @@
 -- The six requests: how a home asks its holders, what it replies, and what it does.
-use Rattle.std.specs.Prelude.{ℕ, Bool, cond, ◌||◌, Some, None, Option}
+use Rattle.std.specs.Prelude.{ℕ, Bool, if◌then◌else◌, ◌||◌, Some, None, Option}
 use Rattle.message.specs.Kinds.{same_kind}
 use Rattle.message.specs.declared.kind.Kind.{Kind}
 use Rattle.message.specs.declared.kind.Kind.TheVariants.{Gets, Getx, Upg, Rblk, Wblk, Inv, Down, SData, XData, Grant, Done, Words}
@@ -27,18 +27,18 @@ abbrev pub asks_down : Kind → Bool
 asks_down k = same_kind k Gets || same_kind k Rblk
 
 abbrev pub asks_by : Kind → Kind
-asks_by k = cond (asks_down k) Down Inv
+asks_by k = if asks_down k then Down else Inv
 
 abbrev pub reply_kind : Kind → Kind
-reply_kind k =
-    cond (same_kind k Gets) SData
-    (cond (same_kind k Getx) XData
-    (cond (same_kind k Upg) Grant
-    (cond (same_kind k Rblk) Words Done)))
+reply_kind Gets = SData
+reply_kind Getx = XData
+reply_kind Upg = Grant
+reply_kind Rblk = Words
+reply_kind _ = Done
 
 -- The replies with the home's words: S-DATA, X-DATA and WORDS.
 abbrev pub carries_words : Kind → Bool
-carries_words k = same_kind k Gets || (same_kind k Getx || same_kind k Rblk)
+carries_words k = same_kind k Gets || same_kind k Getx || same_kind k Rblk
 
 -- What the requester holds after the reply: X-DATA and GRANT make it the owner, S-DATA a sharer.
 abbrev pub gives_ownership : Kind → Bool
@@ -49,4 +49,6 @@ gives_copy k = same_kind k Gets || gives_ownership k
 
 -- What the home itself does for a device.
 abbrev pub operation_for : Kind → Option Operation
-operation_for k = cond (same_kind k Rblk) (Some LdBlk) (cond (same_kind k Wblk) (Some StBlk) None)
+operation_for Rblk = Some LdBlk
+operation_for Wblk = Some StBlk
+operation_for _ = None

@@ -2,20 +2,31 @@
 
 ghost use Rattle.std.specs.Prelude.{◌≡◌};
 ghost use Rattle.home.specs.Directories.{begun, heard_round, view, asking, heard, replied, freed};
+ghost use Rattle.home.specs.Sets.{is_empty};
 
-use crate::processors::{Processors, is_empty};
 use crate::request::Request;
+use message::table::Table;
+
+/// A set of processors, as presence bits by processor; what is no processor is in no set.
+pub type Processors = Table<bool, 4>;
+
+/// Whether no processor is in the set.
+pub fn is_empty(processors: Processors) -> bool
+    ensures { result ≡ is_empty processors }
+{
+    !processors.at.contains(&true)
+}
 
 /// A request whose holders are asked. `awaited` are not yet heard, `latest` is the greatest clock
 /// among those that are.
-#[derive(Clone, Copy)]
+#[derive(Clone, Copy, Debug, PartialEq, Eq)]
 pub struct Round {
     pub request: Request,
     pub awaited: Processors,
     pub latest: u32,
 }
 
-#[derive(Clone, Copy)]
+#[derive(Clone, Copy, Debug, PartialEq, Eq)]
 pub enum Phase {
     /// No request is under way.
     Free,
@@ -26,7 +37,7 @@ pub enum Phase {
 }
 
 /// Presence and the exclusive bit keep their meaning while a request is under way.
-#[derive(Clone, Copy)]
+#[derive(Clone, Copy, Debug, PartialEq, Eq)]
 pub struct Directory {
     pub holders: Processors,
     // A bit beside the presence bits: it falls alone where an owner keeps a shared copy.
@@ -35,7 +46,7 @@ pub struct Directory {
 }
 
 /// How a directory stands to a request.
-#[derive(Clone, Copy)]
+#[derive(Clone, Copy, Debug, PartialEq, Eq)]
 pub enum View {
     Idle,
     Shared,

@@ -1,7 +1,9 @@
 //! What a home keeps, whatever it is told: each law is the contract of a function that does nothing.
 
 ghost use Rattle.home.specs.Cases.{WorkedExchange};
-ghost use Rattle.home.specs.Laws.{RefusesWhileBusy, NacksGiveBack, BusyUntilTaken, TakenFrees, OtherKindsHaveNoRule, ClockNeverGoesBack, FinishesAboveAll, HearsAll, RepliesAboveAll, WordsStay, GrantsToSharers, HomesServeAsAsked, TakenIsPassed, HoldersAreAsked};
+ghost use Rattle.home.specs.Laws.{RefusesWhileBusy, NacksGiveBack, BusyUntilTaken, TakenFrees, OtherKindsHaveNoRule};
+ghost use Rattle.home.specs.Laws.{ClockNeverGoesBack, FinishesAboveAll, HearsAll, RepliesAboveAll, WordsStay};
+ghost use Rattle.home.specs.Laws.{GrantsToSharers, HomesServeAsAsked, TakenIsPassed, HoldersAreAsked};
 
 /// A home that is not free answers every request with NACK, and changes nothing.
 pub fn busy_homes_refuse()

@@ -7,7 +7,6 @@ pub mod directory;
 pub mod laws;
 pub mod machine;
 pub mod plan;
-pub mod processors;
 mod react;
 pub mod request;
 #[cfg(test)]

@@ -9,10 +9,12 @@ use ordering::clock::{Clock, Settle};
 use ordering::operation::Words;
 
 /// `N` is the width of the clock's numbers, as for `Clock`.
-#[derive(Clone, Copy)]
+#[derive(Clone, Copy, Debug, PartialEq, Eq)]
 pub struct Home<N = u32> {
     pub clock: Clock<N>,
+    /// The block's words; while one holds it exclusively, that one's may be newer.
     pub words: Words,
+    /// Who holds a copy, and the request under way.
     pub directory: Directory,
 }
 

@@ -3,12 +3,12 @@
 ghost use Rattle.std.specs.Prelude.{◌≡◌, Some};
 ghost use Rattle.home.specs.Plans.{plan, newcomer, holder};
 
-use crate::directory::View;
-use crate::processors::Processors;
+use crate::directory::{Processors, View};
 use message::kind::Kind;
 use message::table::Table;
 
-#[derive(Clone, Copy)]
+/// What a home does with a request for which there is a rule.
+#[derive(Clone, Copy, Debug, PartialEq, Eq)]
 pub enum Plan {
     /// NACK.
     Refuse,

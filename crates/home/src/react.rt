@@ -1,12 +1,12 @@
 //! What a home does when a message reaches it.
 
 ghost use Rattle.std.specs.Prelude.{◌≡◌, IfSome, None};
-ghost use Rattle.home.specs.Reactions.{clock_after, words_after, entry_for, reply, nack, finished_in, refused, ask_one, asks, asked, requested, heard_in, acknowledged, clock_freed, taken, received};
+ghost use Rattle.home.specs.Reactions.{clock_after, words_after, finished_in, refused, ask_one, asks, asked, requested};
+ghost use Rattle.home.specs.Reactions.{heard_in, acknowledged, clock_freed, taken, received};
 
-use crate::directory::{Phase, Round};
+use crate::directory::{Phase, Processors, Round, is_empty};
 use crate::machine::Home;
 use crate::plan::Plan;
-use crate::processors::{Processors, is_empty};
 use crate::request::Request;
 use message::block::Block;
 use message::kind::Kind;
@@ -15,54 +15,6 @@ use message::node::is_device;
 use message::reaction::{Outbox, Reaction};
 use ordering::clock::Clock;
 use ordering::operation::Words;
-use ordering::stamp::Stamp;
-use trail::entry::Entry;
-
-impl Request {
-    // The operation that the home does for it, at `clock`.
-    fn entry(self, block: Block, words: Words, clock: Clock<u64>) -> Option<Entry>
-        ensures { result ≡ entry_for block self words clock }
-    {
-        Some(Entry {
-            party: self.requester,
-            sequence: self.sequence,
-            operation: self.operation()?,
-            space: 0,
-            place: block.number(),
-            values: words,
-            stamp: Stamp::of(clock, block.home()),
-        })
-    }
-
-    fn reply(self, block: Block, words: Words, clock: u64) -> Message
-        ensures { result ≡ reply block self words clock }
-    {
-        let mut reply = Message::plain(
-            self.reply_kind(),
-            block.home(),
-            self.requester,
-            block.number(),
-        );
-        if self.carries_words() {
-            reply.words = words;
-        }
-        reply.clock = clock;
-        reply
-    }
-
-    // The request goes back as it came.
-    fn nack(self, block: Block) -> Message
-        ensures { result ≡ nack block self }
-    {
-        Message {
-            words: self.words,
-            clock: u64::from(self.clock),
-            sequence: self.sequence,
-            refused: Some(self.kind),
-            ..Message::plain(Kind::Nack, block.home(), self.requester, block.number())
-        }
-    }
-}
 
 fn ask_one(kind: Kind, block: Block, holders: Processors, processor: u32) -> Option<Message>
     ensures { result ≡ ask_one kind block holders processor }

@@ -1,14 +1,20 @@
 //! A request that a home has taken: how it asks its holders for it, what it replies, what it does.
 
 ghost use Rattle.std.specs.Prelude.{◌≡◌};
-ghost use Rattle.home.specs.Requests.{request_of, asks_down, asks_by, reply_kind, carries_words, gives_copy, gives_ownership, operation_for};
+ghost use Rattle.home.specs.Requests.{request_of, asks_down, asks_by, reply_kind, carries_words, gives_copy};
+ghost use Rattle.home.specs.Requests.{gives_ownership, operation_for};
+ghost use Rattle.home.specs.Reactions.{entry_for, reply, nack};
 
+use message::block::Block;
 use message::kind::Kind;
 use message::message::Message;
+use ordering::clock::Clock;
 use ordering::operation::{Operation, Words};
+use ordering::stamp::Stamp;
+use trail::entry::Entry;
 
-/// The requester is a node.
-#[derive(Clone, Copy)]
+/// What stays of the message that asked; the requester is a node.
+#[derive(Clone, Copy, Debug, PartialEq, Eq)]
 pub struct Request {
     pub kind: Kind,
     pub requester: u32,
@@ -90,6 +96,51 @@ impl Request {
             Kind::Rblk => Some(Operation::LdBlk),
             Kind::Wblk => Some(Operation::StBlk),
             _ => None,
+        }
+    }
+
+    /// The operation that the home does for it, at `clock`.
+    pub(crate) fn entry(self, block: Block, words: Words, clock: Clock<u64>) -> Option<Entry>
+        ensures { result ≡ entry_for block self words clock }
+    {
+        Some(Entry {
+            party: self.requester,
+            sequence: self.sequence,
+            operation: self.operation()?,
+            space: 0,
+            place: block.number(),
+            values: words,
+            stamp: Stamp::of(clock, block.home()),
+        })
+    }
+
+    /// The reply to it, with the home's words as they are then and its clock.
+    pub(crate) fn reply(self, block: Block, words: Words, clock: u64) -> Message
+        ensures { result ≡ reply block self words clock }
+    {
+        let mut reply = Message::plain(
+            self.reply_kind(),
+            block.home(),
+            self.requester,
+            block.number(),
+        );
+        if self.carries_words() {
+            reply.words = words;
+        }
+        reply.clock = clock;
+        reply
+    }
+
+    /// The request goes back as it came.
+    pub(crate) fn nack(self, block: Block) -> Message
+        ensures { result ≡ nack block self }
+    {
+        Message {
+            words: self.words,
+            clock: u64::from(self.clock),
+            sequence: self.sequence,
+            refused: Some(self.kind),
+            ..Message::plain(Kind::Nack, block.home(), self.requester, block.number())
         }
     }
 }

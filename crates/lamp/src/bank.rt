@@ -9,12 +9,13 @@ use device::registers::Registers;
 use ordering::operation::Words;
 
 /// A word for each lamp.
-#[derive(Clone, Copy)]
+#[derive(Clone, Copy, Debug, PartialEq, Eq)]
 pub struct Bank {
     lamps: Registers<4>,
 }
 
 impl Bank {
+    /// The lamps as these words say.
     pub fn new(words: [u32; 4]) -> Bank
         ensures { lamps result ≡ words }
     {

@@ -1,10 +1,10 @@
-//! Processors read lamps by ticket: who asks for a word holds a ticket for it until it collects the word or gives it up.
+//! Processors read lamps by ticket: who asks for a word holds a ticket for it until it collects the word or gives it
+//! up.
 
 #![tactic(auto)]
 
 mod bank;
 mod shift;
-mod start;
 #[cfg(test)]
 mod tests;
 mod tickets;
@@ -15,18 +15,17 @@ use list::List;
 use message::kind::Kind;
 use message::message::Message;
 use raster::ticket::Ticketed;
-use shift::{Told, work};
-use start::start;
+use shift::{Report, start, work};
 use std::io;
 use trail::entry::Entry;
 use words::{Done, Refused, Source};
 
-fn show_told(rt: &impl Print, told: Told) -> io::Result<()> {
-    println!(rt; "processor 1 asks twice: {}", Refused(told.again))?;
-    println!(rt; "processor 0 is early: {}", Refused(told.early))?;
-    println!(rt; "processor 0 reads {}", told.first)?;
+fn show_report(rt: &impl Print, report: Report) -> io::Result<()> {
+    println!(rt; "processor 1 asks twice: {}", Refused(report.again))?;
+    println!(rt; "processor 0 is early: {}", Refused(report.early))?;
+    println!(rt; "processor 0 reads {}", report.first)?;
     println!(rt; "processor 1 gives up")?;
-    println!(rt; "processor 2 reads {}", told.third)
+    println!(rt; "processor 2 reads {}", report.third)
 }
 
 fn show_trail(
@@ -52,7 +51,7 @@ fn main(rt: HostRuntime) -> io::Result<()> {
     let mut messages = List::new(&mut message_memory);
     let mut trail = List::new(&mut entry_memory);
     let mut board = start(&mut messages, &mut trail);
-    let told = work(&mut board, &mut messages, &mut trail);
-    show_told(&rt, told)?;
+    let report = work(&mut board, &mut messages, &mut trail);
+    show_report(&rt, report)?;
     show_trail(&rt, &board, &trail)
 }

@@ -31,18 +31,24 @@ const CALLS: [Call; 5] = [
     },
 ];
 
+// Memory for 16 waiting messages and 16 entries.
+fn memory() -> ([Message; 16], [Entry; 16]) {
+    ([Message::plain(Kind::Gets, 0, 0, 0); 16], [Entry::NONE; 16])
+}
+
+fn dark() -> Bank {
+    Bank::new([0; 4])
+}
+
 fn refused_with(answer: Result<Option<u32>, Fault>) -> Option<(u32, usize)> {
     answer.err().map(|fault| (fault.number(), fault.place()))
 }
 
 #[test]
 fn a_stored_word_is_read(rt: HostRuntime) {
-    let mut message_memory = [Message::plain(Kind::Gets, 0, 0, 0); 16];
-    let mut entry_memory = [Entry::NONE; 16];
-    let mut messages = List::new(&mut message_memory);
-    let mut trail = List::new(&mut entry_memory);
-    let (first, second) = (Bank::new([0; 4]), Bank::new([0; 4]));
-    let mut board = Board::make(1, 0, &[0; 64], first, second, &mut messages, &mut trail);
+    let (mut waiting, mut entries) = memory();
+    let (mut messages, mut trail) = (List::new(&mut waiting), List::new(&mut entries));
+    let mut board = Board::make(1, 0, &[0; 64], dark(), dark(), &mut messages, &mut trail);
     let mut answers = [Ok(None); 5];
     board.call_all(&mut messages, &mut trail, &CALLS, &mut answers);
     assert!(rt;
@@ -57,19 +63,16 @@ fn a_stored_word_is_read(rt: HostRuntime) {
 
 #[test]
 fn outside_its_figures_a_board_refuses_all(rt: HostRuntime) {
-    let mut message_memory = [Message::plain(Kind::Gets, 0, 0, 0); 16];
-    let mut entry_memory = [Entry::NONE; 16];
-    let mut messages = List::new(&mut message_memory);
-    let mut trail = List::new(&mut entry_memory);
-    let (first, second) = (Bank::new([0; 4]), Bank::new([0; 4]));
+    let (mut waiting, mut entries) = memory();
+    let (mut messages, mut trail) = (List::new(&mut waiting), List::new(&mut entries));
     let mut answers = [Ok(None); 5];
     // One processor too many.
     let _board = run(
         5,
         0,
         &[0; 64],
-        first,
-        second,
+        dark(),
+        dark(),
         &mut messages,
         &mut trail,
         &CALLS,

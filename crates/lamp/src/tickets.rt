@@ -1,10 +1,10 @@
 //! Calls by ticket whose outcome is known beforehand, so that no ticket is left over where none can be spent.
 
 ghost use Rattle.std.specs.Prelude.{◌≡◌, true, false, Some, None, Ok, Err};
-ghost use Rattle.coherence.specs.Steps.{step};
-ghost use Rattle.coherence.specs.declared.call.Call.TheVariants.{LdIo, Collect, GiveUp};
-ghost use Rattle.lamp.specs.Shifts.{accepts};
-ghost use Rattle.raster.specs.Boards.{world};
+ghost use Rattle.coherence.specs.declared.call.Call.TheVariants.{LdIo};
+ghost use Rattle.lamp.specs.Shifts.{accepted_by};
+ghost use Rattle.raster.specs.Answers.{collect_by, give_up_by};
+ghost use Rattle.raster.specs.Calls.{Stepped};
 
 use coherence::fault::Fault;
 use device::meaning::Device;
@@ -22,8 +22,9 @@ pub fn ask<A: Device, B: Device>(
     device: u32,
     word: u32,
 ) -> Ticket
-    requires { accepts A.Device.meaning B.Device.meaning (LdIo processor device word) (world A.Device.state B.Device.state board.old.board messages.old trail.old) ≡ true }
-    ensures step { (Ok None, world A.Device.state B.Device.state board.new.board messages.new trail.new) ≡ step A.Device.meaning B.Device.meaning (LdIo processor device word) (world A.Device.state B.Device.state board.old.board messages.old trail.old) }
+    requires { accepted_by A.Device B.Device board.old messages.old trail.old (LdIo processor device word) ≡ true }
+    ensures step { Stepped A.Device B.Device board.old.board messages.old trail.old
+        (LdIo processor device word) (Ok None) board.new.board messages.new trail.new }
     ensures ticket { (result.processor ≡ processor) × (result.device ≡ device) }
 {
     match board.ldio(messages, trail, processor, device, word) {
@@ -41,8 +42,9 @@ pub fn ask_in_vain<A: Device, B: Device>(
     device: u32,
     word: u32,
 ) -> Fault
-    requires { accepts A.Device.meaning B.Device.meaning (LdIo processor device word) (world A.Device.state B.Device.state board.old.board messages.old trail.old) ≡ false }
-    ensures { (Err result, world A.Device.state B.Device.state board.new.board messages.new trail.new) ≡ step A.Device.meaning B.Device.meaning (LdIo processor device word) (world A.Device.state B.Device.state board.old.board messages.old trail.old) }
+    requires { accepted_by A.Device B.Device board.old messages.old trail.old (LdIo processor device word) ≡ false }
+    ensures { Stepped A.Device B.Device board.old.board messages.old trail.old
+        (LdIo processor device word) (Err result) board.new.board messages.new trail.new }
 {
     match board.ldio(messages, trail, processor, device, word) {
         Ok(_) => unreachable!(),
@@ -57,8 +59,9 @@ pub fn collect<A: Device, B: Device>(
     trail: &mut List<Entry>,
     ticket: Ticket,
 ) -> u32
-    requires { accepts A.Device.meaning B.Device.meaning (Collect ticket.processor ticket.device) (world A.Device.state B.Device.state board.old.board messages.old trail.old) ≡ true }
-    ensures { (Ok (Some result), world A.Device.state B.Device.state board.new.board messages.new trail.new) ≡ step A.Device.meaning B.Device.meaning (Collect ticket.processor ticket.device) (world A.Device.state B.Device.state board.old.board messages.old trail.old) }
+    requires { accepted_by A.Device B.Device board.old messages.old trail.old (collect_by ticket) ≡ true }
+    ensures { Stepped A.Device B.Device board.old.board messages.old trail.old
+        (collect_by ticket) (Ok (Some result)) board.new.board messages.new trail.new }
 {
     match board.collect(messages, trail, ticket) {
         Ok(word) => word,
@@ -73,8 +76,9 @@ pub fn collect_in_vain<A: Device, B: Device>(
     trail: &mut List<Entry>,
     ticket: Ticket,
 ) -> (Fault, Ticket)
-    requires { accepts A.Device.meaning B.Device.meaning (Collect ticket.processor ticket.device) (world A.Device.state B.Device.state board.old.board messages.old trail.old) ≡ false }
-    ensures step { (Err result.0, world A.Device.state B.Device.state board.new.board messages.new trail.new) ≡ step A.Device.meaning B.Device.meaning (Collect ticket.processor ticket.device) (world A.Device.state B.Device.state board.old.board messages.old trail.old) }
+    requires { accepted_by A.Device B.Device board.old messages.old trail.old (collect_by ticket) ≡ false }
+    ensures step { Stepped A.Device B.Device board.old.board messages.old trail.old
+        (collect_by ticket) (Err result.0) board.new.board messages.new trail.new }
     ensures ticket { result.1 ≡ ticket }
 {
     match board.collect(messages, trail, ticket) {
@@ -90,8 +94,9 @@ pub fn give_up<A: Device, B: Device>(
     trail: &mut List<Entry>,
     ticket: Ticket,
 )
-    requires { accepts A.Device.meaning B.Device.meaning (GiveUp ticket.processor ticket.device) (world A.Device.state B.Device.state board.old.board messages.old trail.old) ≡ true }
-    ensures { (Ok None, world A.Device.state B.Device.state board.new.board messages.new trail.new) ≡ step A.Device.meaning B.Device.meaning (GiveUp ticket.processor ticket.device) (world A.Device.state B.Device.state board.old.board messages.old trail.old) }
+    requires { accepted_by A.Device B.Device board.old messages.old trail.old (give_up_by ticket) ≡ true }
+    ensures { Stepped A.Device B.Device board.old.board messages.old trail.old
+        (give_up_by ticket) (Ok None) board.new.board messages.new trail.new }
 {
     match board.give_up(messages, trail, ticket) {
         Ok(()) => (),

@@ -5,7 +5,7 @@ use std::fmt;
 use trail::entry::Entry;
 
 /// Why a call was refused, by its number and place.
-#[derive(Clone, Copy)]
+#[derive(Clone, Copy, Debug, PartialEq, Eq)]
 pub struct Refused(pub Fault);
 
 impl fmt::Display for Refused {
@@ -17,31 +17,27 @@ impl fmt::Display for Refused {
 }
 
 /// An operation that was done, with its first value.
-#[derive(Clone, Copy)]
+#[derive(Clone, Copy, Debug, PartialEq, Eq)]
 pub struct Done(pub Entry);
 
 impl fmt::Display for Done {
     fn fmt<W: fmt::Write>(&self, f: &mut fmt::Formatter<W>) -> fmt::Result {
-        let Entry {
-            party,
-            sequence,
-            operation,
-            space,
-            place,
-            values,
-            stamp,
-        } = self.0;
-        let [value, ..] = values.at;
+        let Done(done) = *self;
+        let [value, ..] = done.values.at;
+        let stamp = done.stamp;
+        write!(f, "party {}, number {}: ", done.party, done.sequence)?;
         write!(
             f,
-            "party {party}, number {sequence}: {operation} of word {place} in space {space}, value {value}, "
+            "{} of word {} in space {}, ",
+            done.operation, done.place, done.space
         )?;
+        write!(f, "value {value}, ")?;
         write!(f, "stamp {} {} {}", stamp.global, stamp.local, stamp.node)
     }
 }
 
 /// The write that a word was read from, by its entry and value.
-#[derive(Clone, Copy)]
+#[derive(Clone, Copy, Debug, PartialEq, Eq)]
 pub struct Source(pub Option<(usize, u32)>);
 
 impl fmt::Display for Source {

@@ -2,9 +2,6 @@
 
 #![tactic(auto)]
 
-mod methods;
-mod record;
 mod storage;
 
-pub use record::Record;
-pub use storage::{Full, List};
+pub use storage::{Full, List, Record};

@@ -32,13 +32,13 @@ record Right (k : Kind) (o : Form) : Type 0 where
 
 record Reaching (k : Kind) (o : Form) : Type 0 where
   asked : (same_kind k Rio || same_kind k Wio) ≡ true → o.receiver ≡ Owner
-  told : same_kind k Value ≡ true → o.sender ≡ Owner
+  value : same_kind k Value ≡ true → o.sender ≡ Owner
   interrupted : same_kind k Int ≡ true → o.receiver ≡ Target
 
 form_reaches : (k : Kind) (x : Option Kind) (o : Form) → form_of k x ≡ Some o → Reaching k o
 form_reaches k x o e = record {
   asked = λ h. grind (arith, nat_tests);
-  told = λ h. grind (arith, nat_tests);
+  value = λ h. grind (arith, nat_tests);
   interrupted = λ h. grind (arith, nat_tests);
 }
 
@@ -127,7 +127,7 @@ ends_at f m (Some o) e h =
     let b = and_parts _ _ a.1 in
     record {
       asked = λ g. owner_end f o.receiver m.receiver m.place (r.asked g) b.0;
-      told = λ g. owner_end f o.sender m.sender m.place (r.told g) a.0;
+      value = λ g. owner_end f o.sender m.sender m.place (r.value g) a.0;
       interrupted = λ g. target_end f o.receiver m.receiver m.place (r.interrupted g) b.0;
     }
 

@@ -1,5 +1,5 @@
 -- Well-formed messages: ends on the board and of the kind, each field filled as the kind's form says or else 0.
-use Rattle.std.specs.Prelude.{ℕ, Bool, false, cond, not, ◌&&◌, ◌||◌, Some, None, Option, ◌==◌, nat_le, nat_lt, slice_index}
+use Rattle.std.specs.Prelude.{ℕ, Bool, false, if◌then◌else◌, not, ◌&&◌, ◌||◌, Some, None, Option, ◌==◌, nat_le, nat_lt, slice_index}
 use Rattle.ordering.specs.Clocks.{number_end}
 use Rattle.ordering.specs.declared.operation.Words.{Words}
 use Rattle.message.specs.Forms.{form_of}
@@ -19,7 +19,7 @@ abbrev pub has_processor : Figures → ℕ → Bool
 has_processor f n = nat_lt n 4 && nat_lt n f.processors
 
 abbrev pub word_count : Figures → ℕ → ℕ
-word_count f n = cond (n == 4) (slice_index f.counts 0) (cond (n == 5) (slice_index f.counts 1) 0)
+word_count f n = if n == 4 then slice_index f.counts 0 else if n == 5 then slice_index f.counts 1 else 0
 
 -- Whether node n is such an end of a message with place p.
 abbrev pub end_fits : Figures → End → ℕ → ℕ → Bool
@@ -59,4 +59,4 @@ abbrev pub well_formed : Figures → Message ℕ → Bool
 well_formed f m = elim (form_of m.kind m.refused) [ None ↦ false | Some o ↦ fits f o m ]
 
 abbrev pub checked : Figures → Message ℕ → Option (Message ℕ)
-checked f m = cond (well_formed f m) (Some m) None
+checked f m = if well_formed f m then Some m else None

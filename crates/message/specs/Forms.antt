@@ -1,5 +1,5 @@
 -- The form of each kind of message: who sends it to whom, and which fields it fills.
-use Rattle.std.specs.Prelude.{cond, ◌&&◌, Some, None, Option}
+use Rattle.std.specs.Prelude.{if◌then◌else◌, ◌&&◌, Some, None, Option}
 use Rattle.message.specs.Kinds.{same_kind, is_request}
 use Rattle.message.specs.declared.form.End.{End}
 use Rattle.message.specs.declared.form.End.TheVariants.{Processor, Device, Requester, Home, Owner, Target}
@@ -52,5 +52,5 @@ returned f = form Home f.sender f.words f.numbers
 
 -- Only a NACK refuses a kind, and only a request.
 abbrev pub form_of : Kind → Option Kind → Option Form
-form_of k None = cond (same_kind k Nack) None (Some (row k))
-form_of k (Some r) = cond (same_kind k Nack && is_request r) (Some (returned (row r))) None
+form_of k None = if same_kind k Nack then None else Some (row k)
+form_of k (Some r) = if (same_kind k Nack && is_request r) then Some (returned (row r)) else None

@@ -1,5 +1,5 @@
 -- The twenty kinds of message and their numbers.
-use Rattle.std.specs.Prelude.{ℕ, Bool, cond, Some, None, Option, ◌==◌, nat_le}
+use Rattle.std.specs.Prelude.{ℕ, Bool, if◌then◌else◌, Some, None, Option, ◌==◌, nat_le}
 use Rattle.message.specs.declared.kind.Kind.{Kind}
 use Rattle.message.specs.declared.kind.Kind.TheVariants.{Gets, Getx, Upg, Wb, Rblk, Wblk, Rio, Wio, Int, Inv, Down, Ack, SData, XData, Grant, Done, Words, Value, Nack, Taken}
 
@@ -35,7 +35,8 @@ is_request k = nat_le (kind_number k) 6
 -- The requests that a processor may make, by number.
 abbrev pub request_numbered : ℕ → Option Kind
 request_numbered n =
-    cond (n == 1) (Some Gets)
-    (cond (n == 2) (Some Getx)
-    (cond (n == 3) (Some Upg)
-    (cond (n == 4) (Some Wb) None)))
+    if n == 1 then Some Gets
+    else if n == 2 then Some Getx
+    else if n == 3 then Some Upg
+    else if n == 4 then Some Wb
+    else None

@@ -26,17 +26,22 @@ goes_home k = is_request k || (same_kind k Ack || same_kind k Taken)
 
 abbrev pub comes_from_home : Kind → Bool
 comes_from_home k =
-    same_kind k Inv || (same_kind k Down || (same_kind k Nack || (nat_le (kind_number SData) (kind_number k) && nat_le (kind_number k) (kind_number Words))))
+    same_kind k Inv || (same_kind k Down || (same_kind k Nack
+    || (nat_le (kind_number SData) (kind_number k) && nat_le (kind_number k) (kind_number Words))))
 
 -- What carries four words, one word, and a sequence number. A NACK gives back what the request carried.
 abbrev pub carries_four : Kind → Bool
-carries_four k = same_kind k Wblk || same_kind k Ack || same_kind k SData || same_kind k XData || same_kind k Words || same_kind k Nack
+carries_four k =
+    same_kind k Wblk || same_kind k Ack || same_kind k SData || same_kind k XData || same_kind k Words
+    || same_kind k Nack
 
 abbrev pub carries_one : Kind → Bool
 carries_one k = same_kind k Wio || same_kind k Int || same_kind k Value
 
 abbrev pub carries_number : Kind → Bool
-carries_number k = same_kind k Rblk || same_kind k Wblk || same_kind k Rio || same_kind k Wio || same_kind k Int || same_kind k Nack
+carries_number k =
+    same_kind k Rblk || same_kind k Wblk || same_kind k Rio || same_kind k Wio || same_kind k Int
+    || same_kind k Nack
 
 pub record Sound (m : Message ℕ) : Type 0 where
   pub clock : m.clock ≤ number_end
@@ -58,7 +63,7 @@ WellFormedAreSound = (f : Figures) (m : Message ℕ) → well_formed f m ≡ tru
 -- What goes to a device's word, or comes from it, has a device that has it; an interrupt goes to the processor at its place.
 pub record EndsAreThere (f : Figures) (m : Message ℕ) : Type 0 where
   pub asked : (same_kind m.kind Rio || same_kind m.kind Wio) ≡ true → m.place < word_count f m.receiver
-  pub told : same_kind m.kind Value ≡ true → m.place < word_count f m.sender
+  pub value : same_kind m.kind Value ≡ true → m.place < word_count f m.sender
   pub interrupted : same_kind m.kind Int ≡ true → (m.receiver ≡ m.place) × (has_processor f m.receiver ≡ true)
 
 abbrev pub WellFormedHaveEnds : Type 0

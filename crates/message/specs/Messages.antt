@@ -20,14 +20,4 @@ plain k s r p = record {
 
 -- What is read past the end of a list of messages.
 abbrev pub no_message : Message ℕ
-no_message = record {
-  kind = Gets;
-  sender = 0;
-  receiver = 0;
-  place = 0;
-  words = record { at = [] };
-  clock = 0;
-  sequence = 0;
-  exclusive = false;
-  refused = None;
-}
+no_message = record (plain Gets 0 0 0) { words = record { at = [] } }

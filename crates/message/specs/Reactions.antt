@@ -31,7 +31,7 @@ abbrev pub quiet : {S : Type 0} → S → Reaction S
 quiet s = telling None s
 
 abbrev pub sending : {S : Type 0} → Message ℕ → S → Reaction S
-sending m s = record { next = s; sent = single m; entry = None; answer = None }
+sending m s = record (quiet s) { sent = single m }
 
 abbrev pub doing : {S : Type 0} → Entry → Option ℕ → S → Reaction S
-doing e v s = record { next = s; sent = silent; entry = Some e; answer = v }
+doing e v s = record (telling v s) { entry = Some e }

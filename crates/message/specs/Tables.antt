@@ -10,4 +10,4 @@ abbrev pub at_place : {T : Type 0} {n : ℕ} → T → Table T n → ℕ → T
 at_place b t p = slice_index_or t.at p b
 
 abbrev pub with_at : {T : Type 0} {n : ℕ} → Table T n → ℕ → T → Table T n
-with_at t p x = record { at = slice_set t.at p x }
+with_at t p x = record t { at = slice_set t.at p x }

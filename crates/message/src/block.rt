@@ -1,12 +1,12 @@
 //! The numbers of the sixteen blocks.
 
-ghost use Rattle.std.specs.Prelude.{◌≡◌, ℕ, ◌<◌, cond, nat_lt, Some, None};
+ghost use Rattle.std.specs.Prelude.{◌≡◌, ℕ, ◌<◌, if◌then◌else◌, nat_lt, Some, None};
 ghost use Rattle.message.specs.Nodes.{home_node};
 
 use std::marker::Model;
 
 /// The number of a block: it is below 16.
-#[derive(Clone, Copy)]
+#[derive(Clone, Copy, Debug, PartialEq, Eq)]
 pub struct Block {
     number: u32,
 }
@@ -25,7 +25,7 @@ impl Block {
     // Not a `TryFrom`: of a number that is no block's, nobody asks why.
     /// None from 16 up.
     pub fn new(number: u32) -> Option<Block>
-        ensures { result ≡ cond (nat_lt number 16) (Some number) None }
+        ensures { result ≡ (if nat_lt number 16 then Some number else None) }
     {
         if number < 16 {
             return Some(Block { number });

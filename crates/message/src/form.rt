@@ -1,12 +1,15 @@
 //! The form of each kind of message: who sends it to whom, and which fields it fills.
 
-ghost use Rattle.std.specs.Prelude.{◌≡◌};
+ghost use Rattle.std.specs.Prelude.{◌≡◌, ◌≤◌, true};
+ghost use Rattle.message.specs.Checks.{rest_is_zero, all_are_zero, words_fit, numbers_fit};
 ghost use Rattle.message.specs.Forms.{form, returned, row, form_of};
 
 use crate::kind::Kind;
+use ordering::clock::END;
+use ordering::operation::Words;
 
 /// One end of a message. The last three tie the message's place to the end.
-#[derive(Clone, Copy)]
+#[derive(Clone, Copy, Debug, PartialEq, Eq)]
 pub enum End {
     /// A processor of this board.
     Processor,
@@ -23,7 +26,7 @@ pub enum End {
 }
 
 /// Which words are filled.
-#[derive(Clone, Copy)]
+#[derive(Clone, Copy, Debug, PartialEq, Eq)]
 pub enum Fill {
     Zero,
     One,
@@ -33,19 +36,61 @@ pub enum Fill {
 }
 
 /// Which numbers are filled.
-#[derive(Clone, Copy)]
+#[derive(Clone, Copy, Debug, PartialEq, Eq)]
 pub enum Numbers {
     Zero,
     Clock,
     ClockAndSequence,
 }
 
-#[derive(Clone, Copy)]
+/// What a message of one kind has at its ends and in its fields.
+#[derive(Clone, Copy, Debug, PartialEq, Eq)]
 pub struct Form {
     pub sender: End,
     pub receiver: End,
     pub words: Fill,
     pub numbers: Numbers,
+}
+
+fn rest_is_zero(words: Words) -> bool
+    ensures { result ≡ rest_is_zero words }
+{
+    matches!(words.at, [_, 0, 0, 0])
+}
+
+fn all_are_zero(words: Words) -> bool
+    ensures { result ≡ all_are_zero words }
+{
+    words == Words::ZERO
+}
+
+impl Fill {
+    // Only what may be marked has a mark.
+    pub(crate) fn allows(self, mark: bool, words: Words) -> bool
+        ensures { result ≡ words_fit self mark words }
+    {
+        match self {
+            Fill::Zero => !mark && all_are_zero(words),
+            Fill::One => !mark && rest_is_zero(words),
+            Fill::Four => !mark,
+            Fill::Marked => mark || all_are_zero(words),
+        }
+    }
+}
+
+impl Numbers {
+    pub(crate) fn allow(self, clock: u64, sequence: u32) -> bool
+        ensures value { result ≡ numbers_fit self clock sequence }
+        ensures clock { result ≡ true → clock ≤ 1000000000 }
+        ensures sequence { result ≡ true → sequence ≤ 1000000000 }
+    {
+        let end = u64::from(END);
+        match self {
+            Numbers::Zero => clock == 0 && sequence == 0,
+            Numbers::Clock => clock <= end && sequence == 0,
+            Numbers::ClockAndSequence => clock <= end && sequence <= END,
+        }
+    }
 }
 
 impl Form {

@@ -1,7 +1,8 @@
 //! What follows from the table of forms and from the order of the network: each law is the contract of a
 //! function that does nothing.
 
-ghost use Rattle.message.specs.Laws.{NumbersTellKinds, RequestsHaveNumbers, WellFormedAreSound, WellFormedHaveEnds, OldestGoesFirst, OthersGo};
+ghost use Rattle.message.specs.Laws.{NumbersTellKinds, RequestsHaveNumbers, WellFormedAreSound, WellFormedHaveEnds};
+ghost use Rattle.message.specs.Laws.{OldestGoesFirst, OthersGo};
 
 /// No two kinds have one number.
 #[tactic(auto, using(crate::proofs::Numbering::numbers_tell_kinds))]

@@ -11,5 +11,4 @@ pub mod message;
 pub mod node;
 pub mod pair;
 pub mod reaction;
-pub mod requests;
 pub mod table;

@@ -6,20 +6,22 @@ ghost use Rattle.message.specs.Reactions.{silent, single, sent_count, telling, q
 use crate::message::Message;
 use trail::entry::Entry;
 
-// By rule in fixed memory, so no `Vec`.
+// The board stands in fixed memory, so no `Vec`.
 /// Up to four messages; the full places hold what is sent, in their order.
-#[derive(Clone, Copy)]
+#[derive(Clone, Copy, Debug, PartialEq, Eq)]
 pub struct Outbox {
     pub at: [Option<Message>; 4],
 }
 
 impl Outbox {
+    /// Nothing is sent.
     pub fn silent() -> Outbox
         ensures { result ≡ silent }
     {
         Outbox { at: [None; 4] }
     }
 
+    /// One message is sent.
     pub fn single(message: Message) -> Outbox
         ensures { result ≡ single message }
     {
@@ -39,7 +41,7 @@ impl Outbox {
 
 /// The node's next state with its new numbers, which may stand past their end; what it sends; the
 /// operation that it does, if any; and what it tells its caller.
-#[derive(Clone, Copy)]
+#[derive(Clone, Copy, Debug, PartialEq, Eq)]
 pub struct Reaction<S> {
     pub next: S,
     pub sent: Outbox,
@@ -48,6 +50,7 @@ pub struct Reaction<S> {
 }
 
 impl<S> Reaction<S> {
+    /// Sends, does and answers nothing.
     pub fn quiet(next: S) -> Reaction<S>
         ensures { result ≡ quiet next }
     {
@@ -59,15 +62,17 @@ impl<S> Reaction<S> {
         }
     }
 
-    pub fn telling(next: S, told: Option<u32>) -> Reaction<S>
-        ensures { result ≡ telling told next }
+    /// Only answers.
+    pub fn telling(next: S, answer: Option<u32>) -> Reaction<S>
+        ensures { result ≡ telling answer next }
     {
         Reaction {
-            answer: told,
+            answer,
             ..Reaction::quiet(next)
         }
     }
 
+    /// Only sends one message.
     pub fn sending(next: S, message: Message) -> Reaction<S>
         ensures { result ≡ sending message next }
     {
@@ -77,12 +82,13 @@ impl<S> Reaction<S> {
         }
     }
 
-    pub fn doing(next: S, entry: Entry, told: Option<u32>) -> Reaction<S>
-        ensures { result ≡ doing entry told next }
+    /// Does an operation, and answers.
+    pub fn doing(next: S, entry: Entry, answer: Option<u32>) -> Reaction<S>
+        ensures { result ≡ doing entry answer next }
     {
         Reaction {
             entry: Some(entry),
-            ..Reaction::telling(next, told)
+            ..Reaction::telling(next, answer)
         }
     }
 }

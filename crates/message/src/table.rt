@@ -1,7 +1,11 @@
-//! A value for each of a few places. Any number may be asked for: past the last place stands the blank value.
+//! A value for each of a few places, such as the request that a node has out for each block. Any number may be asked
+//! for: past the last place stands the blank value.
 
 ghost use Rattle.std.specs.Prelude.{◌≡◌, None, false};
+ghost use Rattle.message.specs.Requests.{is_out};
 ghost use Rattle.message.specs.Tables.{blank_table, at_place, with_at};
+
+use crate::kind::Kind;
 
 /// A kind of value, with the one that stands where nothing was put.
 pub trait Blank: Copy {
@@ -53,4 +57,16 @@ impl<T: Copy> Blank for Option<T> {
     ghost BLANK = { None };
 
     const BLANK: Option<T> = None;
+}
+
+/// The request that a node has out, by block.
+pub type Requests = Table<Option<Kind>, 16>;
+
+impl Table<Option<Kind>, 16> {
+    /// Whether a request of this kind is out for the block.
+    pub fn is_out(self, block: u32, kind: Kind) -> bool
+        ensures { result ≡ is_out self block kind }
+    {
+        self.get(block) == Some(kind)
+    }
 }

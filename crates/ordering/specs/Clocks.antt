@@ -1,5 +1,5 @@
 -- Clocks: passing a number, counting an operation, and the end of numbers.
-use Rattle.std.specs.Prelude.{◌≡◌, ℕ, ◌+◌, ◌<◌, ◌≤◌, max, Bool, cond, ◌&&◌, ◌⊎◌, Some, None, Option, nat_le}
+use Rattle.std.specs.Prelude.{◌≡◌, ℕ, ◌+◌, ◌<◌, ◌≤◌, max, Bool, ◌&&◌, ◌⊎◌, Some, None, Option, if◌then◌else◌, nat_le}
 use Rattle.ordering.specs.declared.clock.Clock.{Clock}
 
 -- Where global, local and sequence numbers end; the end itself is a number that may be had.
@@ -12,17 +12,17 @@ passed c n = record { global = max c.global n + 1; local = 0 }
 
 -- An operation adds 1 to the local number.
 abbrev pub counted : Clock ℕ → Clock ℕ
-counted c = record { global = c.global; local = c.local + 1 }
+counted c = record c { local = c.local + 1 }
 
 abbrev pub is_within : Clock ℕ → Bool
 is_within c = nat_le c.global number_end && nat_le c.local number_end
 
 abbrev pub settled : Clock ℕ → Option (Clock ℕ)
-settled c = cond (is_within c) (Some c) None
+settled c = if is_within c then Some c else None
 
 -- An operation with the last number may be done, so the number of the next may stand one past it.
 abbrev pub settled_next : ℕ → Option ℕ
-settled_next n = cond (nat_le n (number_end + 1)) (Some n) None
+settled_next n = if nat_le n (number_end + 1) then Some n else None
 
 -- An operation may have any number up to the end and none above it: the number after its own can or cannot be had.
 pub record NumbersAreUsed : Type 0 where

@@ -1,5 +1,5 @@
 -- Stamps and their order.
-use Rattle.std.specs.Prelude.{◌≡◌, ℕ, Bool, true, false, cond, ◌==◌, nat_lt}
+use Rattle.std.specs.Prelude.{◌≡◌, ℕ, Bool, true, false, ◌==◌, if◌then◌else◌, nat_lt}
 use Rattle.ordering.specs.declared.clock.Clock.{Clock}
 use Rattle.ordering.specs.declared.stamp.Stamp.{Stamp}
 
@@ -9,9 +9,9 @@ stamped c n = record { global = c.global; local = c.local; node = n }
 -- Compared by global number, then local number, then node.
 abbrev pub below : Stamp → Stamp → Bool
 below s t =
-    cond (s.global == t.global)
-    (cond (s.local == t.local) (nat_lt s.node t.node) (nat_lt s.local t.local))
-    (nat_lt s.global t.global)
+    if s.global == t.global
+    then (if s.local == t.local then nat_lt s.node t.node else nat_lt s.local t.local)
+    else nat_lt s.global t.global
 
 pub record StrictTotalOrder : Type 0 where
   pub irreflexive : (s : Stamp) → below s s ≡ false

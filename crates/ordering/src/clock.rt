@@ -7,6 +7,7 @@ ghost use Rattle.ordering.specs.Clocks.{counted, passed, settled, settled_next, 
 /// Where global, local and sequence numbers end.
 pub const END: u32 = 1_000_000_000;
 
+/// What a node's operations are stamped by.
 #[derive(Clone, Copy, Debug, PartialEq, Eq)]
 pub struct Clock<N = u32> {
     pub global: N,

@@ -6,6 +6,7 @@ ghost use Rattle.ordering.specs.Words.{one_word};
 
 use std::fmt;
 
+/// What is done at a place of a space.
 #[derive(Clone, Copy, Debug, PartialEq, Eq)]
 pub enum Operation {
     Ld,
@@ -18,12 +19,14 @@ pub enum Operation {
 }
 
 impl Operation {
+    /// Whether it gets what stands at its place.
     pub fn is_read(self) -> bool
         ensures { result ≡ is_read self }
     {
         matches!(self, Operation::Ld | Operation::LdIo | Operation::LdBlk)
     }
 
+    /// Whether it changes what stands at its place.
     pub fn is_write(self) -> bool
         ensures { result ≡ is_write self }
     {
@@ -77,6 +80,7 @@ pub struct Words {
 impl Words {
     pub const ZERO: Words = Words { at: [0; 4] };
 
+    /// The word first, and then zeros.
     pub fn one(word: u32) -> Words
         ensures { result ≡ one_word word }
     {

@@ -5,13 +5,14 @@ ghost use Rattle.ordering.specs.Orders.{column, letter, one_target, ordered, Tab
 
 use crate::operation::Operation;
 
+/// Who issues operations; each kind keeps an order of its own.
 #[derive(Clone, Copy, Debug, PartialEq, Eq)]
 pub enum Party {
     Processor,
     Device,
 }
 
-// By rule any space and place may be named, so these are numbers.
+// Spaces and places that no board has may be named too, so these are numbers.
 /// What an operation goes to.
 #[derive(Clone, Copy, Debug, PartialEq, Eq)]
 pub struct Access {
@@ -20,7 +21,7 @@ pub struct Access {
     pub place: u32,
 }
 
-// By rule flat tables of the letters A, D and -.
+// Flat tables, a letter a cell, as the rules print them.
 // Rows are the earlier operation. Rows and columns: LD, ST, LDio, STio.
 #[rattlefmt::skip]
 const PROCESSOR: [char; 16] = [
@@ -114,23 +115,19 @@ pub fn rule_is_in_words()
 mod tests {
     use super::*;
 
+    fn access(operation: Operation, space: u32, place: u32) -> Access {
+        Access {
+            operation,
+            space,
+            place,
+        }
+    }
+
     #[test]
     fn a_store_to_a_lamp_is_overtaken_by_a_load(rt: HostRuntime) {
-        let lamp = Access {
-            operation: Operation::StIo,
-            space: 1,
-            place: 3,
-        };
-        let other_lamp = Access {
-            operation: Operation::LdIo,
-            space: 2,
-            place: 3,
-        };
-        let word = Access {
-            operation: Operation::Ld,
-            space: 0,
-            place: 40,
-        };
+        let lamp = access(Operation::StIo, 1, 3);
+        let other_lamp = access(Operation::LdIo, 2, 3);
+        let word = access(Operation::Ld, 0, 40);
         assert!(rt; !Party::Processor.orders(lamp, word));
         assert!(rt; !Party::Processor.orders(lamp, other_lamp));
         assert!(rt; Party::Processor.orders(other_lamp, word));
@@ -138,16 +135,8 @@ mod tests {
 
     #[test]
     fn a_report_comes_after_the_strip(rt: HostRuntime) {
-        let strip = Access {
-            operation: Operation::StBlk,
-            space: 0,
-            place: 7,
-        };
-        let report = Access {
-            operation: Operation::Int,
-            space: 3,
-            place: 1,
-        };
+        let strip = access(Operation::StBlk, 0, 7);
+        let report = access(Operation::Int, 3, 1);
         assert!(rt; Party::Device.orders(strip, report));
         assert!(rt; !Party::Device.orders(report, strip));
     }

@@ -44,23 +44,19 @@ pub fn stamps_are_ordered()
 mod tests {
     use super::*;
 
+    fn stamp(global: u64, local: u64, node: u32) -> Stamp {
+        Stamp {
+            global,
+            local,
+            node,
+        }
+    }
+
     #[test]
     fn global_then_local_then_node(rt: HostRuntime) {
-        let low = Stamp {
-            global: 2,
-            local: 9,
-            node: 3,
-        };
-        let middle = Stamp {
-            global: 3,
-            local: 1,
-            node: 0,
-        };
-        let high = Stamp {
-            global: 3,
-            local: 1,
-            node: 4,
-        };
+        let low = stamp(2, 9, 3);
+        let middle = stamp(3, 1, 0);
+        let high = stamp(3, 1, 4);
         assert!(rt; low.is_below(middle) && middle.is_below(high) && low.is_below(high));
         assert!(rt; !high.is_below(middle) && !low.is_below(low));
     }

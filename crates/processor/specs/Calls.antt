@@ -1,5 +1,5 @@
 -- What a processor does at each call: its reaction, or why it refuses.
-use Rattle.std.specs.Prelude.{ℕ, Bool, true, false, cond, ◌&&◌, Some, None, Ok, Err, Result, nat_lt}
+use Rattle.std.specs.Prelude.{ℕ, Bool, true, false, if◌then◌else◌, ◌&&◌, Some, None, Option, Ok, Err, Result, nat_lt}
 use Rattle.ordering.specs.Clocks.{counted}
 use Rattle.ordering.specs.Stamps.{stamped}
 use Rattle.ordering.specs.Words.{one_word, no_words}
@@ -7,7 +7,6 @@ use Rattle.ordering.specs.declared.operation.Operation.{Operation}
 use Rattle.ordering.specs.declared.operation.Operation.TheVariants.{Ld, St}
 use Rattle.ordering.specs.declared.operation.Words.{Words}
 use Rattle.trail.specs.declared.entry.Entry.{Entry}
-use Rattle.message.specs.Kinds.{same_kind}
 use Rattle.message.specs.Messages.{plain}
 use Rattle.message.specs.Nodes.{home_node, device_node}
 use Rattle.message.specs.Requests.{out}
@@ -44,93 +43,78 @@ operation_entry s n o w v = record {
 abbrev pub operated : Processor ℕ → Processor ℕ
 operated s = numbered (at_clock (counted s.clock) s)
 
--- An operation waits for the word of every own LDio, given up or not.
-abbrev pub fetched_all : Processor ℕ → Result (Unit {0}) Refusal
-fetched_all s = elim (awaited_device s.slots) [ None ↦ Ok tt | Some d ↦ Err (Awaits d) ]
+-- An operation needs a fit line, whose words are given, and waits for the word of every own LDio, given up or not.
+abbrev pub ready : Processor ℕ → ℕ → Option Words → Result Words Refusal
+ready s b None = Err (NotHeld b)
+ready s b (Some ws) = elim (awaited_device s.slots) [ None ↦ Ok ws | Some d ↦ Err (Awaits d) ]
 
 -- LD of a word of memory, on a line S or X.
 abbrev pub load : Processor ℕ → ℕ → ℕ → Answer
 load s n w =
-    elim (held_words (line_at s.lines (block_of w))) [
-      | None ↦ Err (NotHeld (block_of w))
-      | Some ws ↦ elim (awaited_device s.slots) [
-        | Some d ↦ Err (Awaits d)
-        | None ↦ Ok (doing (operation_entry s n Ld w (word_of ws w)) (Some (word_of ws w)) (operated s))
-      ]
+    elim (ready s (block_of w) (held_words (line_at s.lines (block_of w)))) [
+      | Err e ↦ Err e
+      | Ok ws ↦ Ok (doing (operation_entry s n Ld w (word_of ws w)) (Some (word_of ws w)) (operated s))
     ]
 
 -- ST to a word of memory, on a line X.
 abbrev pub store : Processor ℕ → ℕ → ℕ → ℕ → Answer
 store s n w v =
-    elim (owned_words (line_at s.lines (block_of w))) [
-      | None ↦ Err (NotHeld (block_of w))
-      | Some ws ↦ elim (awaited_device s.slots) [
-        | Some d ↦ Err (Awaits d)
-        | None ↦ Ok (doing (operation_entry s n St w v) None (at_line (block_of w) (Exclusive (with_word ws w v)) (operated s)))
-      ]
+    elim (ready s (block_of w) (owned_words (line_at s.lines (block_of w)))) [
+      | Err e ↦ Err e
+      | Ok ws ↦
+          let line = Exclusive (with_word ws w v) in
+          Ok (doing (operation_entry s n St w v) None (at_line (block_of w) line (operated s)))
     ]
 
 -- GETS and GETX are asked for at a line I, UPG at S, WB at X.
 abbrev pub fits : Line → Kind → Bool
-fits Invalid k = cond (same_kind k Gets) true (same_kind k Getx)
-fits (Shared ws) k = same_kind k Upg
-fits (Exclusive ws) k = same_kind k Wb
+fits Invalid Gets = true
+fits Invalid Getx = true
+fits (Shared ws) Upg = true
+fits (Exclusive ws) Wb = true
+fits _ _ = false
 
 abbrev pub request : Processor ℕ → ℕ → ℕ → Kind → Answer
 request s n b k =
-    cond (nat_lt b 16 && fits (line_at s.lines b) k)
-    (elim (out s.requests b) [
+    if (nat_lt b 16 && fits (line_at s.lines b) k)
+    then elim (out s.requests b) [
       | Some j ↦ Err (RequestOut b)
       | None ↦ Ok (sending (plain k n (home_node b) b) (at_request b (Some k) s))
-    ])
-    (Err (Unfit b))
+    ]
+    else Err (Unfit b)
 
 -- A message to a device about one of its words, with the processor's clock and the operation's number.
 abbrev pub to_device : Kind → Processor ℕ → ℕ → ℕ → ℕ → Words → Message ℕ
-to_device k s n d w ws = record {
-  kind = k;
-  sender = n;
-  receiver = device_node d;
-  place = w;
-  words = ws;
-  clock = s.clock.global;
-  sequence = s.sequence;
-  exclusive = false;
-  refused = None;
-}
+to_device k s n d w ws =
+    record (plain k n (device_node d) w) { words = ws; clock = s.clock.global; sequence = s.sequence }
 
 -- LDio sends Rio and takes the device's slot. (A device that is not there has no slot to take.)
 abbrev pub ldio : Processor ℕ → ℕ → ℕ → ℕ → Answer
 ldio s n d w =
-    cond (nat_lt d 2 && is_free (slot_at s.slots d))
-    (Ok (sending (to_device Rio s n d w no_words) (at_slot d Awaited (numbered s))))
-    (Err (SlotTaken d))
+    if (nat_lt d 2 && is_free (slot_at s.slots d))
+    then Ok (sending (to_device Rio s n d w no_words) (at_slot d Awaited (numbered s)))
+    else Err (SlotTaken d)
 
 -- STio sends Wio; it needs no slot.
 abbrev pub stio : Processor ℕ → ℕ → ℕ → ℕ → ℕ → Answer
 stio s n d w v =
-    cond (nat_lt d 2)
-    (Ok (sending (to_device Wio s n d w (one_word v)) (numbered s)))
-    (Err (SlotTaken d))
+    if nat_lt d 2 then Ok (sending (to_device Wio s n d w (one_word v)) (numbered s)) else Err (SlotTaken d)
 
 -- Collect tells a word that came and frees the slot.
 abbrev pub collect : Processor ℕ → ℕ → Answer
 collect s d =
     elim (slot_at s.slots d) [
-      | Free ↦ Err (NotCollectable d)
-      | Awaited ↦ Err (NotCollectable d)
-      | Abandoned ↦ Err (NotCollectable d)
       | Came v ↦ Ok (telling (Some v) (at_slot d Free s))
+      | _ ↦ Err (NotCollectable d)
     ]
 
 -- Give up frees a slot whose word came; one whose word is awaited stays taken, and nobody holds it.
 abbrev pub give_up : Processor ℕ → ℕ → Answer
 give_up s d =
     elim (slot_at s.slots d) [
-      | Free ↦ Err (NotCollectable d)
       | Awaited ↦ Ok (quiet (at_slot d Abandoned s))
-      | Abandoned ↦ Err (NotCollectable d)
       | Came v ↦ Ok (quiet (at_slot d Free s))
+      | _ ↦ Err (NotCollectable d)
     ]
 
 -- Poll tells the latest interrupt word that was not polled, or none.

@@ -1,9 +1,10 @@
 -- Runs of one processor with what comes of them, step by step.
-use Rattle.std.specs.Prelude.{◌≡◌, ℕ, false, List, [], ◌∷◌, Some, None, Option}
+use Rattle.std.specs.Prelude.{◌≡◌, ℕ, List, [], ◌∷◌, Some, None, Option}
 use Rattle.ordering.specs.Words.{one_word, no_words}
 use Rattle.ordering.specs.declared.operation.Words.{Words}
 use Rattle.ordering.specs.declared.stamp.Stamp.{Stamp}
 use Rattle.trail.specs.declared.entry.Entry.{Entry}
+use Rattle.message.specs.Messages.{plain}
 use Rattle.message.specs.declared.kind.Kind.{Kind}
 use Rattle.message.specs.declared.kind.Kind.TheVariants as kind
 use Rattle.processor.specs.Inputs.{Input, Load, Store, Request, Ldio, Collect, GiveUp, Receive, reaction}
@@ -32,17 +33,7 @@ told_at s i = elim (reaction s 0 i) [ None ↦ None | Some r ↦ r.answer ]
 
 -- A message to processor 0.
 abbrev pub sent_to_0 : Kind → ℕ → ℕ → Words → ℕ → Input
-sent_to_0 k from place ws c = Receive (record {
-  kind = k;
-  sender = from;
-  receiver = 0;
-  place = place;
-  words = ws;
-  clock = c;
-  sequence = 0;
-  exclusive = false;
-  refused = None;
-})
+sent_to_0 k from place ws c = Receive (record (plain k from 0 place) { words = ws; clock = c })
 
 -- GETX of block 0 from a start at 0, and X-DATA with the clock 1 of its home.
 abbrev pub owner : Processor ℕ

@@ -35,24 +35,10 @@ reaction s n (Receive m) = receive s n m
 
 -- The message that came, or none at a call.
 abbrev pub message_of : Input → Option (Message ℕ)
-message_of (Load w) = None
-message_of (Store w v) = None
-message_of (Request b k) = None
-message_of (Ldio d w) = None
-message_of (Stio d w v) = None
-message_of (Collect d) = None
-message_of (GiveUp d) = None
-message_of Poll = None
 message_of (Receive m) = Some m
+message_of _ = None
 
 -- The word to which a call stores, if it does.
 abbrev pub stored_word : Input → Option ℕ
-stored_word (Load w) = None
 stored_word (Store w v) = Some w
-stored_word (Request b k) = None
-stored_word (Ldio d w) = None
-stored_word (Stio d w v) = None
-stored_word (Collect d) = None
-stored_word (GiveUp d) = None
-stored_word Poll = None
-stored_word (Receive m) = None
+stored_word _ = None

@@ -27,7 +27,13 @@ use Rattle.ordering.specs.Words.{one_word, first_word}
 
 -- A law about every reaction: the state before, the processor's number, what came, and the reaction.
 abbrev pub EachReaction : (Processor ℕ → ℕ → Input → Reaction (Processor ℕ) → Type 0) → Type 0
-EachReaction Holds = (s : Processor ℕ) (n : ℕ) (i : Input) (r : Reaction (Processor ℕ)) → reaction s n i ≡ Some r → Holds s n i r
+EachReaction Holds = (s : Processor ℕ) (n : ℕ) (i : Input) (r : Reaction (Processor ℕ)) → reaction s n i ≡ Some r
+    → Holds s n i r
+
+-- A law about every reaction to a message: the state before, the processor's number, the message, and the reaction.
+abbrev pub EachReceipt : (Processor ℕ → ℕ → Message ℕ → Reaction (Processor ℕ) → Type 0) → Type 0
+EachReceipt Holds = (s : Processor ℕ) (n : ℕ) (m : Message ℕ) (r : Reaction (Processor ℕ)) → receive s n m ≡ Some r
+    → Holds s n m r
 
 -- Kinds whose clock a processor passes.
 abbrev pub tells_time : Kind → Bool
@@ -44,24 +50,30 @@ asks k = same_kind k kind.Inv || same_kind k kind.Down
 pub record ClocksGoOn : Type 0 where
   pub never_back : EachReaction (λ s n i r. (r.next.clock ≡ s.clock) ⊎ Earlier s.clock r.next.clock)
   pub at_operations : EachReaction (λ s n i r. is_some r.entry ≡ true → Earlier s.clock r.next.clock)
-  pub when_asked : EachReaction (λ s n i r. (m : Message ℕ) → message_of i ≡ Some m → asks m.kind ≡ true → s.clock.global < r.next.clock.global)
-  pub past_messages : EachReaction (λ s n i r. (m : Message ℕ) → message_of i ≡ Some m → tells_time m.kind ≡ true → m.clock < r.next.clock.global)
+  pub when_asked : EachReaction (λ s n i r. (m : Message ℕ) → message_of i ≡ Some m → asks m.kind ≡ true
+      → s.clock.global < r.next.clock.global)
+  pub past_messages : EachReaction (λ s n i r. (m : Message ℕ) → message_of i ≡ Some m → tells_time m.kind ≡ true
+      → m.clock < r.next.clock.global)
 
 -- An operation is stamped with the clock after it. At a call it is the processor's own and has its next number,
 -- which is then used up; at a message it is the sender's and has the message's number.
 pub record EntriesAreStamped : Type 0 where
   pub stamps : EachReaction (λ s n i r. (e : Entry) → r.entry ≡ Some e → e.stamp ≡ stamped r.next.clock n)
-  pub own : EachReaction (λ s n i r. (e : Entry) → r.entry ≡ Some e → message_of i ≡ None → (e.party ≡ n) × (e.sequence ≡ s.sequence) × (r.next.sequence ≡ s.sequence + 1))
-  pub sent : EachReaction (λ s n i r. (e : Entry) (m : Message ℕ) → r.entry ≡ Some e → message_of i ≡ Some m → (e.party ≡ m.sender) × (e.sequence ≡ m.sequence) × (r.next.sequence ≡ s.sequence))
+  pub own : EachReaction (λ s n i r. (e : Entry) → r.entry ≡ Some e → message_of i ≡ None
+      → (e.party ≡ n) × (e.sequence ≡ s.sequence) × (r.next.sequence ≡ s.sequence + 1))
+  pub sent : EachReaction (λ s n i r. (e : Entry) (m : Message ℕ) → r.entry ≡ Some e → message_of i ≡ Some m
+      → (e.party ≡ m.sender) × (e.sequence ≡ m.sequence) × (r.next.sequence ≡ s.sequence))
 
 -- INV leaves the line I; DOWN leaves it S, with its words.
 pub record AskedLinesGiveWay : Type 0 where
-  pub inv : (s : Processor ℕ) (n : ℕ) (m : Message ℕ) (r : Reaction (Processor ℕ)) → receive s n m ≡ Some r → same_kind m.kind kind.Inv ≡ true → line_at r.next.lines m.place ≡ Invalid
-  pub down : (s : Processor ℕ) (n : ℕ) (m : Message ℕ) (r : Reaction (Processor ℕ)) → receive s n m ≡ Some r → same_kind m.kind kind.Down ≡ true → (ws : Words) → held_words (line_at s.lines m.place) ≡ Some ws → line_at r.next.lines m.place ≡ Shared ws
+  pub inv : EachReceipt (λ s n m r. same_kind m.kind kind.Inv ≡ true → line_at r.next.lines m.place ≡ Invalid)
+  pub down : EachReceipt (λ s n m r. same_kind m.kind kind.Down ≡ true → (ws : Words)
+      → held_words (line_at s.lines m.place) ≡ Some ws → line_at r.next.lines m.place ≡ Shared ws)
 
 -- A copy is asked for, by GETS or GETX, only while none is held.
 abbrev pub CopiesAreMissing : Processor ℕ → Type 0
-CopiesAreMissing s = (b : ℕ) → (is_out s.requests b kind.Gets || is_out s.requests b kind.Getx) ≡ true → line_at s.lines b ≡ Invalid
+CopiesAreMissing s = (b : ℕ) → (is_out s.requests b kind.Gets || is_out s.requests b kind.Getx) ≡ true
+    → line_at s.lines b ≡ Invalid
 
 -- Every reaction keeps that,
 abbrev pub CopiesStayMissing : Type 0
@@ -69,7 +81,9 @@ CopiesStayMissing = EachReaction (λ s n i r. CopiesAreMissing s → CopiesAreMi
 
 -- and a line that is held before and after it has the same words, unless the call was a store to its block.
 abbrev pub HeldWordsStay : Type 0
-HeldWordsStay = EachReaction (λ s n i r. CopiesAreMissing s → (b : ℕ) → ((w : ℕ) → stored_word i ≡ Some w → block_of w ≢ b) → (before after : Words) → held_words (line_at s.lines b) ≡ Some before → held_words (line_at r.next.lines b) ≡ Some after → after ≡ before)
+HeldWordsStay = EachReaction (λ s n i r. CopiesAreMissing s → (b : ℕ) → ((w : ℕ) → stored_word i ≡ Some w
+    → block_of w ≢ b) → (before after : Words) → held_words (line_at s.lines b) ≡ Some before
+    → held_words (line_at r.next.lines b) ≡ Some after → after ≡ before)
 
 pub record OnlyStoresChangeWords : Type 0 where
   pub start : (clock : ℕ) → CopiesAreMissing (made clock)
@@ -90,11 +104,13 @@ pub record OnlyEndsTheRequest (s : Processor ℕ) (b : ℕ) (r : Reaction (Proce
   pub tells : r.answer ≡ None
 
 abbrev pub NackOnlyEnds : Type 0
-NackOnlyEnds = (s : Processor ℕ) (n : ℕ) (m : Message ℕ) (r : Reaction (Processor ℕ)) → receive s n m ≡ Some r → same_kind m.kind kind.Nack ≡ true → OnlyEndsTheRequest s m.place r
+NackOnlyEnds = EachReceipt (λ s n m r. same_kind m.kind kind.Nack ≡ true → OnlyEndsTheRequest s m.place r)
 
 -- A slot that was given up before its word came stays taken until VALUE comes from its device; no LDio gets it.
 abbrev pub AbandonedStays : Type 0
-AbandonedStays = EachReaction (λ s n i r. (d : ℕ) → slot_at s.slots d ≡ Abandoned → ((m : Message ℕ) → message_of i ≡ Some m → same_kind m.kind kind.Value ≡ true → m.sender ≢ device_node d) → slot_at r.next.slots d ≡ Abandoned)
+AbandonedStays = EachReaction (λ s n i r. (d : ℕ) → slot_at s.slots d ≡ Abandoned → ((m : Message ℕ)
+    → message_of i ≡ Some m → same_kind m.kind kind.Value ≡ true → m.sender ≢ device_node d)
+    → slot_at r.next.slots d ≡ Abandoned)
 
 pub record GivenUpSlotsStayTaken : Type 0 where
   pub stays : AbandonedStays
@@ -102,7 +118,8 @@ pub record GivenUpSlotsStayTaken : Type 0 where
 
 -- An operation of its own is done only once the word of every own LDio has come, given up or not.
 abbrev pub OwnOperationsWait : Type 0
-OwnOperationsWait = EachReaction (λ s n i r. message_of i ≡ None → is_some r.entry ≡ true → (d : ℕ) → d < 2 → is_awaited (slot_at s.slots d) ≡ false)
+OwnOperationsWait = EachReaction (λ s n i r. message_of i ≡ None → is_some r.entry ≡ true → (d : ℕ) → d < 2
+    → is_awaited (slot_at s.slots d) ≡ false)
 
 -- A held line has four words.
 abbrev pub FourWords : Processor ℕ → Type 0
@@ -111,11 +128,16 @@ FourWords s = (b : ℕ) (ws : Words) → held_words (line_at s.lines b) ≡ Some
 -- A load tells what its entry has, and after a store to its word the value stored; a poll tells what the
 -- interrupt's entry has, a collect the word that VALUE brought.
 pub record ToldWordsAreTrue : Type 0 where
-  pub loaded : (s : Processor ℕ) (n w : ℕ) (r : Reaction (Processor ℕ)) → load s n w ≡ Ok r → (e : Entry) → r.entry ≡ Some e → r.answer ≡ Some (first_word e.values)
+  pub loaded : (s : Processor ℕ) (n w : ℕ) (r : Reaction (Processor ℕ)) → load s n w ≡ Ok r → (e : Entry)
+      → r.entry ≡ Some e → r.answer ≡ Some (first_word e.values)
   pub entered : (s : Processor ℕ) (n w : ℕ) (r : Reaction (Processor ℕ)) → load s n w ≡ Ok r → is_some r.entry ≡ true
-  pub polled : (s : Processor ℕ) (n : ℕ) (m : Message ℕ) (r : Reaction (Processor ℕ)) → receive s n m ≡ Some r → (e : Entry) → r.entry ≡ Some e → (poll r.next).answer ≡ Some (first_word e.values)
-  pub stored : (s : Processor ℕ) (n w v : ℕ) (r q : Reaction (Processor ℕ)) → FourWords s → store s n w v ≡ Ok r → load r.next n w ≡ Ok q → q.answer ≡ Some v
-  pub collected : (s : Processor ℕ) (n d : ℕ) (m : Message ℕ) (r q : Reaction (Processor ℕ)) → receive s n m ≡ Some r → same_kind m.kind kind.Value ≡ true → m.sender ≡ device_node d → collect r.next d ≡ Ok q → q.answer ≡ Some (first_word m.words)
+  pub polled : EachReceipt (λ s n m r. (e : Entry) → r.entry ≡ Some e
+      → (poll r.next).answer ≡ Some (first_word e.values))
+  pub stored : (s : Processor ℕ) (n w v : ℕ) (r q : Reaction (Processor ℕ)) → FourWords s → store s n w v ≡ Ok r
+      → load r.next n w ≡ Ok q → q.answer ≡ Some v
+  pub collected : (s : Processor ℕ) (n d : ℕ) (m : Message ℕ) (r q : Reaction (Processor ℕ)) → receive s n m ≡ Some r
+      → same_kind m.kind kind.Value ≡ true → m.sender ≡ device_node d → collect r.next d ≡ Ok q
+      → q.answer ≡ Some (first_word m.words)
 
 -- The kinds that a processor has a rule for.
 abbrev pub is_for_processor : Kind → Bool
@@ -129,14 +151,17 @@ pub record ProcessorsKeepToTheirPart : Type 0 where
 -- What was asked for is what is written: an ST has the value of its call, Wio carries that of an STio, and an interrupt has the
 -- word that came.
 pub record ProcessorsWriteAsAsked : Type 0 where
-  pub stored : (s : Processor ℕ) (n w v : ℕ) (r : Reaction (Processor ℕ)) → store s n w v ≡ Ok r → (e : Entry) → r.entry ≡ Some e → (e.values ≡ one_word v) × (e.place ≡ w)
-  pub sent : (s : Processor ℕ) (n d w v : ℕ) (r : Reaction (Processor ℕ)) → stio s n d w v ≡ Ok r → (y : Message ℕ) → r.sent ≡ single y → (y.words ≡ one_word v) × (y.place ≡ w) × (y.receiver ≡ device_node d)
-  pub interrupted : (s : Processor ℕ) (n : ℕ) (m : Message ℕ) (r : Reaction (Processor ℕ)) → receive s n m ≡ Some r → (e : Entry) → r.entry ≡ Some e → e.values ≡ one_word (first_word m.words)
+  pub stored : (s : Processor ℕ) (n w v : ℕ) (r : Reaction (Processor ℕ)) → store s n w v ≡ Ok r → (e : Entry)
+      → r.entry ≡ Some e → (e.values ≡ one_word v) × (e.place ≡ w)
+  pub sent : (s : Processor ℕ) (n d w v : ℕ) (r : Reaction (Processor ℕ)) → stio s n d w v ≡ Ok r → (y : Message ℕ)
+      → r.sent ≡ single y → (y.words ≡ one_word v) × (y.place ≡ w) × (y.receiver ≡ device_node d)
+  pub interrupted : EachReceipt (λ s n m r. (e : Entry) → r.entry ≡ Some e → e.values ≡ one_word (first_word m.words))
 
 -- What is told is told once: a second poll tells nothing, and a collected slot is free again.
 pub record ToldOnce : Type 0 where
   pub polled : (s : Processor ℕ) → (poll (poll s).next).answer ≡ None
-  pub collected : (s : Processor ℕ) (d : ℕ) (r : Reaction (Processor ℕ)) → collect s d ≡ Ok r → slot_at r.next.slots d ≡ Free
+  pub collected : (s : Processor ℕ) (d : ℕ) (r : Reaction (Processor ℕ)) → collect s d ≡ Ok r
+      → slot_at r.next.slots d ≡ Free
 
 -- Where a request has its place: GETS and GETX where no copy is held, UPG at a shared one, WB at one's own; no other kind.
 pub record HasPlace (l : Line) (k : Kind) : Type 0 where
@@ -146,11 +171,15 @@ pub record HasPlace (l : Line) (k : Kind) : Type 0 where
   pub others : (same_kind k kind.Gets || same_kind k kind.Getx || same_kind k kind.Upg || same_kind k kind.Wb) ≡ true
 
 abbrev pub RequestsHavePlaces : Type 0
-RequestsHavePlaces = (s : Processor ℕ) (n b : ℕ) (k : Kind) (r : Reaction (Processor ℕ)) → request s n b k ≡ Ok r → HasPlace (line_at s.lines b) k
+RequestsHavePlaces = (s : Processor ℕ) (n b : ℕ) (k : Kind) (r : Reaction (Processor ℕ)) → request s n b k ≡ Ok r
+    → HasPlace (line_at s.lines b) k
 
 -- Of two things that stand in the way the first is told: a word that is awaited only where the line would do, and a request
 -- that is out only where this one has its place.
 pub record RefusedInOrder : Type 0 where
-  pub loads : (s : Processor ℕ) (n w d : ℕ) → load s n w ≡ Err (Awaits d) → is_some (held_words (line_at s.lines (block_of w))) ≡ true
-  pub stores : (s : Processor ℕ) (n w v d : ℕ) → store s n w v ≡ Err (Awaits d) → is_some (owned_words (line_at s.lines (block_of w))) ≡ true
-  pub requests : (s : Processor ℕ) (n b c : ℕ) (k : Kind) → request s n b k ≡ Err (RequestOut c) → HasPlace (line_at s.lines b) k
+  pub loads : (s : Processor ℕ) (n w d : ℕ) → load s n w ≡ Err (Awaits d)
+      → is_some (held_words (line_at s.lines (block_of w))) ≡ true
+  pub stores : (s : Processor ℕ) (n w v d : ℕ) → store s n w v ≡ Err (Awaits d)
+      → is_some (owned_words (line_at s.lines (block_of w))) ≡ true
+  pub requests : (s : Processor ℕ) (n b c : ℕ) (k : Kind) → request s n b k ≡ Err (RequestOut c)
+      → HasPlace (line_at s.lines b) k

@@ -1,6 +1,6 @@
 -- What a processor does when a message reaches it, or none where there is no rule. The fields that a kind
 -- leaves empty, and who may send it, are not looked at here.
-use Rattle.std.specs.Prelude.{ℕ, Bool, true, false, cond, Some, None, Option}
+use Rattle.std.specs.Prelude.{ℕ, if◌then◌else◌, is_some, unwrap_or, Some, None, Option}
 use Rattle.ordering.specs.Clocks.{passed, counted}
 use Rattle.ordering.specs.Stamps.{stamped}
 use Rattle.ordering.specs.Words.{one_word, no_words, first_word}
@@ -27,142 +27,115 @@ use Rattle.processor.specs.declared.state.Processor.{Processor}
 abbrev pub Outcome : Type 0
 Outcome = Option (Reaction (Processor ℕ))
 
--- To give way: the processor passes its own global, its line becomes what the home asked for, and ACK
--- goes to the home with the new global, marked and with the line's words if the line was X.
-abbrev pub acknowledgement : ℕ → ℕ → ℕ → ℕ → Bool → Words → Message ℕ
-acknowledgement n h b c x ws = record {
-  kind = kind.Ack;
-  sender = n;
-  receiver = h;
-  place = b;
-  words = ws;
-  clock = c;
-  sequence = 0;
-  exclusive = x;
-  refused = None;
-}
+-- To give way: the processor passes its own global, its line becomes what the home asked for, and ACK goes to the home
+-- with the new global, marked and with the line's words if the line was X.
+abbrev pub acknowledgement : ℕ → Message ℕ → ℕ → Option Words → Message ℕ
+acknowledgement n m c owned =
+    record (plain kind.Ack n m.sender m.place) {
+      words = unwrap_or owned no_words;
+      clock = c;
+      exclusive = is_some owned;
+    }
 
-abbrev pub giving_way : Processor ℕ → ℕ → ℕ → ℕ → Line → Bool → Words → Reaction (Processor ℕ)
-giving_way s n h b l x ws =
+abbrev pub giving_way : Processor ℕ → ℕ → Message ℕ → Line → Option Words → Reaction (Processor ℕ)
+giving_way s n m l owned =
     let c = passed s.clock s.clock.global in
-    sending (acknowledgement n h b c.global x ws) (at_line b l (at_clock c s))
+    sending (acknowledgement n m c.global owned) (at_line m.place l (at_clock c s))
 
 -- INV takes a held line to I.
-abbrev pub invalidated : Processor ℕ → ℕ → ℕ → ℕ → Outcome
-invalidated s n h b =
-    elim (line_at s.lines b) [
+abbrev pub invalidated : Processor ℕ → ℕ → Message ℕ → Outcome
+invalidated s n m =
+    elim (line_at s.lines m.place) [
       | Invalid ↦ None
-      | Shared ws ↦ Some (giving_way s n h b Invalid false no_words)
-      | Exclusive ws ↦ Some (giving_way s n h b Invalid true ws)
+      | Shared ws ↦ Some (giving_way s n m Invalid None)
+      | Exclusive ws ↦ Some (giving_way s n m Invalid (Some ws))
     ]
 
 -- DOWN takes a line X to S.
-abbrev pub downgraded : Processor ℕ → ℕ → ℕ → ℕ → Outcome
-downgraded s n h b =
-    elim (line_at s.lines b) [
-      | Invalid ↦ None
-      | Shared ws ↦ None
-      | Exclusive ws ↦ Some (giving_way s n h b (Shared ws) true ws)
-    ]
+abbrev pub downgraded : Processor ℕ → ℕ → Message ℕ → Outcome
+downgraded s n m =
+    elim (line_at s.lines m.place) [ Exclusive ws ↦ Some (giving_way s n m (Shared ws) (Some ws)) | _ ↦ None ]
 
 -- At a reply the processor passes its clock, ends the request, and sends TAKEN.
-abbrev pub taking : Processor ℕ → ℕ → ℕ → ℕ → ℕ → Reaction (Processor ℕ)
-taking s n h b c = sending (plain kind.Taken n h b) (at_request b None (at_clock (passed s.clock c) s))
+abbrev pub taking : Processor ℕ → ℕ → Message ℕ → Reaction (Processor ℕ)
+taking s n m =
+    sending (plain kind.Taken n m.sender m.place) (at_request m.place None (at_clock (passed s.clock m.clock) s))
 
-abbrev pub taking_line : Processor ℕ → ℕ → ℕ → ℕ → ℕ → Line → Reaction (Processor ℕ)
-taking_line s n h b c l = taking (at_line b l s) n h b c
+abbrev pub taking_line : Processor ℕ → ℕ → Message ℕ → Line → Reaction (Processor ℕ)
+taking_line s n m l = taking (at_line m.place l s) n m
 
 -- The request of kind k is answered, and the line becomes l.
-abbrev pub filled : Processor ℕ → ℕ → ℕ → ℕ → ℕ → Kind → Line → Outcome
-filled s n h b c k l = cond (is_out s.requests b k) (Some (taking_line s n h b c l)) None
+abbrev pub filled : Processor ℕ → ℕ → Message ℕ → Kind → Line → Outcome
+filled s n m k l = if is_out s.requests m.place k then Some (taking_line s n m l) else None
 
 -- S-DATA answers GETS, X-DATA GETX: the words come into the line.
-abbrev pub shared : Processor ℕ → ℕ → ℕ → ℕ → Words → ℕ → Outcome
-shared s n h b ws c = filled s n h b c kind.Gets (Shared ws)
+abbrev pub shared : Processor ℕ → ℕ → Message ℕ → Outcome
+shared s n m = filled s n m kind.Gets (Shared m.words)
 
-abbrev pub owned : Processor ℕ → ℕ → ℕ → ℕ → Words → ℕ → Outcome
-owned s n h b ws c = filled s n h b c kind.Getx (Exclusive ws)
+abbrev pub owned : Processor ℕ → ℕ → Message ℕ → Outcome
+owned s n m = filled s n m kind.Getx (Exclusive m.words)
 
 -- GRANT answers UPG at a line S, which becomes X and keeps its words.
-abbrev pub granted : Processor ℕ → ℕ → ℕ → ℕ → ℕ → Outcome
-granted s n h b c =
-    cond (is_out s.requests b kind.Upg)
-    (elim (line_at s.lines b) [
-      | Invalid ↦ None
-      | Shared ws ↦ Some (taking_line s n h b c (Exclusive ws))
-      | Exclusive ws ↦ None
-    ])
-    None
+abbrev pub granted : Processor ℕ → ℕ → Message ℕ → Outcome
+granted s n m =
+    if is_out s.requests m.place kind.Upg
+    then elim (line_at s.lines m.place) [ Shared ws ↦ Some (taking_line s n m (Exclusive ws)) | _ ↦ None ]
+    else None
 
 -- DONE answers WB; the line stays as it is.
-abbrev pub done : Processor ℕ → ℕ → ℕ → ℕ → ℕ → Outcome
-done s n h b c = cond (is_out s.requests b kind.Wb) (Some (taking s n h b c)) None
+abbrev pub done : Processor ℕ → ℕ → Message ℕ → Outcome
+done s n m = if is_out s.requests m.place kind.Wb then Some (taking s n m) else None
 
 -- NACK ends the request of the refused kind, and moves no clock.
-abbrev pub nacked : Processor ℕ → ℕ → Option Kind → Outcome
-nacked s b k =
-    elim k [
+abbrev pub nacked : Processor ℕ → Message ℕ → Outcome
+nacked s m =
+    elim m.refused [
       | None ↦ None
-      | Some j ↦ cond (is_out s.requests b j) (Some (quiet (at_request b None s))) None
+      | Some k ↦ if is_out s.requests m.place k then Some (quiet (at_request m.place None s)) else None
     ]
 
 -- INT: the processor passes its clock and does the operation of the device that sent it; the word fills the register.
-abbrev pub interrupt_entry : Processor ℕ → ℕ → ℕ → ℕ → ℕ → ℕ → Entry
-interrupt_entry s n p q v c = record {
-  party = p;
-  sequence = q;
+abbrev pub interrupt_entry : Processor ℕ → ℕ → Message ℕ → Entry
+interrupt_entry s n m = record {
+  party = m.sender;
+  sequence = m.sequence;
   operation = operation.Int;
   space = 3;
   place = n;
-  values = one_word v;
-  stamp = stamped (counted (passed s.clock c)) n;
+  values = one_word (first_word m.words);
+  stamp = stamped (counted (passed s.clock m.clock)) n;
 }
 
-abbrev pub interrupted : Processor ℕ → ℕ → ℕ → ℕ → ℕ → ℕ → Reaction (Processor ℕ)
-interrupted s n p q v c =
-    doing (interrupt_entry s n p q v c) None (at_register (Some v) (at_clock (counted (passed s.clock c)) s))
+abbrev pub interrupted : Processor ℕ → ℕ → Message ℕ → Reaction (Processor ℕ)
+interrupted s n m =
+    doing (interrupt_entry s n m) None
+    (at_register (Some (first_word m.words)) (at_clock (counted (passed s.clock m.clock)) s))
 
 -- VALUE: the word of an LDio has come; a slot that nobody holds becomes free. The clock is passed in both cases.
 abbrev pub fetched : Processor ℕ → ℕ → ℕ → ℕ → Outcome
 fetched s d v c =
     elim (slot_at s.slots d) [
-      | Free ↦ None
       | Awaited ↦ Some (quiet (at_slot d (Came v) (at_clock (passed s.clock c) s)))
       | Abandoned ↦ Some (quiet (at_slot d Free (at_clock (passed s.clock c) s)))
-      | Came w ↦ None
+      | _ ↦ None
     ]
 
-abbrev pub fetched_from : Processor ℕ → ℕ → ℕ → ℕ → Outcome
-fetched_from s sender v c =
-    elim (node_numbered sender) [
-      | None ↦ None
-      | Some (node.Processor p) ↦ None
-      | Some (node.Device d) ↦ fetched s d v c
-      | Some (node.Home b) ↦ None
-    ]
+abbrev pub fetched_from : Processor ℕ → Message ℕ → Outcome
+fetched_from s m =
+    elim (node_numbered m.sender) [ Some (node.Device d) ↦ fetched s d (first_word m.words) m.clock | _ ↦ None ]
 
 -- The rules by kind. Requests, ACK, TAKEN and what goes to devices are not for a processor.
 abbrev pub receive_kind : Kind → Processor ℕ → ℕ → Message ℕ → Outcome
-receive_kind kind.Gets s n m = None
-receive_kind kind.Getx s n m = None
-receive_kind kind.Upg s n m = None
-receive_kind kind.Wb s n m = None
-receive_kind kind.Rblk s n m = None
-receive_kind kind.Wblk s n m = None
-receive_kind kind.Rio s n m = None
-receive_kind kind.Wio s n m = None
-receive_kind kind.Int s n m = Some (interrupted s n m.sender m.sequence (first_word m.words) m.clock)
-receive_kind kind.Inv s n m = invalidated s n m.sender m.place
-receive_kind kind.Down s n m = downgraded s n m.sender m.place
-receive_kind kind.Ack s n m = None
-receive_kind kind.SData s n m = shared s n m.sender m.place m.words m.clock
-receive_kind kind.XData s n m = owned s n m.sender m.place m.words m.clock
-receive_kind kind.Grant s n m = granted s n m.sender m.place m.clock
-receive_kind kind.Done s n m = done s n m.sender m.place m.clock
-receive_kind kind.Words s n m = None
-receive_kind kind.Value s n m = fetched_from s m.sender (first_word m.words) m.clock
-receive_kind kind.Nack s n m = nacked s m.place m.refused
-receive_kind kind.Taken s n m = None
+receive_kind kind.Int s n m = Some (interrupted s n m)
+receive_kind kind.Inv s n m = invalidated s n m
+receive_kind kind.Down s n m = downgraded s n m
+receive_kind kind.SData s n m = shared s n m
+receive_kind kind.XData s n m = owned s n m
+receive_kind kind.Grant s n m = granted s n m
+receive_kind kind.Done s n m = done s n m
+receive_kind kind.Value s n m = fetched_from s m
+receive_kind kind.Nack s n m = nacked s m
+receive_kind _ s n m = None
 
 abbrev pub receive : Processor ℕ → ℕ → Message ℕ → Outcome
 receive s n m = receive_kind m.kind s n m

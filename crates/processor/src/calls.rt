@@ -2,7 +2,8 @@
 //! hold: that is where it stands on the board.
 
 ghost use Rattle.std.specs.Prelude.{◌≡◌, ◌<◌, true, is_some, IfOk, None};
-ghost use Rattle.processor.specs.Calls.{operation_entry, fetched_all, load, store, fits, request, to_device, ldio, stio, collect, give_up, poll};
+ghost use Rattle.processor.specs.Calls.{operation_entry, operated, ready, load, store, request, to_device, ldio};
+ghost use Rattle.processor.specs.Calls.{stio, collect, give_up, poll};
 
 use crate::line::{Line, with_word, word_of};
 use crate::refusal::Refusal;
@@ -16,19 +17,8 @@ use ordering::operation::{Operation, Words};
 use ordering::stamp::Stamp;
 use trail::entry::Entry;
 
-impl Line {
-    /// Whether the line is one at which a processor may ask for this.
-    fn fits(self, kind: Kind) -> bool
-        ensures { result ≡ fits self kind }
-    {
-        matches!(
-            (self, kind),
-            (Line::Invalid, Kind::Gets | Kind::Getx)
-                | (Line::Shared(_), Kind::Upg)
-                | (Line::Exclusive(_), Kind::Wb)
-        )
-    }
-}
+/// The reaction to a call, or why it is refused.
+pub type Answer = Result<Reaction<Processor<u64>>, Refusal>;
 
 impl Processor {
     // The entry of an operation on a line, stamped with the clock that counts it.
@@ -59,68 +49,59 @@ impl Processor {
         }
     }
 
-    // The word of every own LDio has come.
-    fn fetched_all(self) -> Result<(), Refusal>
-        ensures { result ≡ fetched_all self }
+    // An operation on a line is done at once: it is counted, and takes the next number.
+    fn operated(self) -> Processor<u64>
+        ensures { result ≡ operated self }
     {
+        Processor {
+            clock: self.clock.counted(),
+            sequence: u64::from(self.sequence) + 1,
+            ..self.into()
+        }
+    }
+
+    // An operation needs a fit line, and the word of every own LDio.
+    fn ready(self, block: u32, words: Option<Words>) -> Result<Words, Refusal>
+        ensures { result ≡ ready self block words }
+    {
+        let words = words.ok_or(Refusal::NotHeld(block))?;
         match awaited_device(self.slots) {
-            None => Ok(()),
+            None => Ok(words),
             Some(device) => Err(Refusal::Awaits(device)),
         }
     }
 
-    // What is told stands in the reaction, for each kind of node; `told` and `quiet` say it of each call.
+    // The answer stands in the reaction, for each kind of node; `answer` and `quiet` say it of each call.
     /// An LD: tells the word.
-    pub fn load(self, node: u32, word: u32) -> Result<Reaction<Processor<u64>>, Refusal>
+    pub fn load(self, node: u32, word: u32) -> Answer
         ensures value { result ≡ load self node word }
-        ensures told { IfOk result (λ x. is_some x.answer ≡ true) }
+        ensures answer { IfOk result (λ x. is_some x.answer ≡ true) }
     {
         let block = word / 4;
-        let held = self.lines.get(block).held();
-        let words = held.ok_or(Refusal::NotHeld(block))?;
-        self.fetched_all()?;
+        let words = self.ready(block, self.lines.get(block).held())?;
         let value = word_of(words, word);
-        let next = Processor {
-            clock: self.clock.counted(),
-            sequence: u64::from(self.sequence) + 1,
-            ..self.into()
-        };
         let entry = self.operation(node, Operation::Ld, word, value);
-        Ok(Reaction::doing(next, entry, Some(value)))
+        Ok(Reaction::doing(self.operated(), entry, Some(value)))
     }
 
     /// An ST.
-    pub fn store(
-        self,
-        node: u32,
-        word: u32,
-        value: u32,
-    ) -> Result<Reaction<Processor<u64>>, Refusal>
+    pub fn store(self, node: u32, word: u32, value: u32) -> Answer
         ensures value { result ≡ store self node word value }
         ensures quiet { IfOk result (λ x. x.answer ≡ None) }
     {
         let block = word / 4;
-        let owned = self.lines.get(block).owned();
-        let words = owned.ok_or(Refusal::NotHeld(block))?;
-        self.fetched_all()?;
+        let words = self.ready(block, self.lines.get(block).owned())?;
         let line = Line::Exclusive(with_word(words, word, value));
         let next = Processor {
-            clock: self.clock.counted(),
-            sequence: u64::from(self.sequence) + 1,
             lines: self.lines.with(block, line),
-            ..self.into()
+            ..self.operated()
         };
         let entry = self.operation(node, Operation::St, word, value);
         Ok(Reaction::doing(next, entry, None))
     }
 
     /// Asks a block's home for a copy, for the right to store, or to take its words back.
-    pub fn request(
-        self,
-        node: u32,
-        block: u32,
-        kind: Kind,
-    ) -> Result<Reaction<Processor<u64>>, Refusal>
+    pub fn request(self, node: u32, block: u32, kind: Kind) -> Answer
         ensures value { result ≡ request self node block kind }
         ensures quiet { IfOk result (λ x. x.answer ≡ None) }
     {
@@ -140,12 +121,7 @@ impl Processor {
     }
 
     /// Asks a device for one of its words; the word comes into the slot.
-    pub fn ldio(
-        self,
-        node: u32,
-        device: u32,
-        word: u32,
-    ) -> Result<Reaction<Processor<u64>>, Refusal>
+    pub fn ldio(self, node: u32, device: u32, word: u32) -> Answer
         ensures value { result ≡ ldio self node device word }
         ensures quiet { IfOk result (λ x. x.answer ≡ None) }
     {
@@ -162,13 +138,7 @@ impl Processor {
     }
 
     /// Sends a device a value for one of its words.
-    pub fn stio(
-        self,
-        node: u32,
-        device: u32,
-        word: u32,
-        value: u32,
-    ) -> Result<Reaction<Processor<u64>>, Refusal>
+    pub fn stio(self, node: u32, device: u32, word: u32, value: u32) -> Answer
         ensures value { result ≡ stio self node device word value }
         ensures quiet { IfOk result (λ x. x.answer ≡ None) }
     {
@@ -184,9 +154,9 @@ impl Processor {
     }
 
     /// Tells a word that came, and frees its slot.
-    pub fn collect(self, device: u32) -> Result<Reaction<Processor<u64>>, Refusal>
+    pub fn collect(self, device: u32) -> Answer
         ensures value { result ≡ collect self device }
-        ensures told { IfOk result (λ x. is_some x.answer ≡ true) }
+        ensures answer { IfOk result (λ x. is_some x.answer ≡ true) }
     {
         let Slot::Came(word) = self.slots.get(device) else {
             return Err(Refusal::NotCollectable(device));
@@ -199,7 +169,7 @@ impl Processor {
     }
 
     /// Lets a slot go: at once if its word came, else once it comes.
-    pub fn give_up(self, device: u32) -> Result<Reaction<Processor<u64>>, Refusal>
+    pub fn give_up(self, device: u32) -> Answer
         ensures value { result ≡ give_up self device }
         ensures quiet { IfOk result (λ x. x.answer ≡ None) }
     {

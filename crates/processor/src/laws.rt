@@ -1,7 +1,10 @@
 //! What holds of every reaction of a processor, whatever its state and whatever came.
 
 ghost use Rattle.processor.specs.Cases.{WorkedCases};
-ghost use Rattle.processor.specs.Laws.{ClocksGoOn, EntriesAreStamped, AskedLinesGiveWay, OnlyStoresChangeWords, NackOnlyEnds, GivenUpSlotsStayTaken, OwnOperationsWait, ToldWordsAreTrue, ProcessorsKeepToTheirPart, ProcessorsWriteAsAsked, ToldOnce, RequestsHavePlaces, RefusedInOrder};
+ghost use Rattle.processor.specs.Laws.{ClocksGoOn, EntriesAreStamped, AskedLinesGiveWay, OnlyStoresChangeWords};
+ghost use Rattle.processor.specs.Laws.{NackOnlyEnds, GivenUpSlotsStayTaken, OwnOperationsWait, ToldWordsAreTrue};
+ghost use Rattle.processor.specs.Laws.{ProcessorsKeepToTheirPart, ProcessorsWriteAsAsked, ToldOnce, RequestsHavePlaces};
+ghost use Rattle.processor.specs.Laws.{RefusedInOrder};
 
 /// No reaction takes the clock back, and one that does an operation takes it on; after a message whose
 /// clock is passed, the global number is above it.

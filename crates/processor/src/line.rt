@@ -1,9 +1,11 @@
 //! Cache lines: a processor's copy of each block, if it has one.
 
 ghost use Rattle.std.specs.Prelude.{◌≡◌};
+ghost use Rattle.processor.specs.Calls.{fits};
 ghost use Rattle.processor.specs.Lines.{held_words, owned_words, word_of, with_word};
 ghost use Rattle.processor.specs.declared.line.Line.TheVariants.{Invalid};
 
+use message::kind::Kind;
 use message::table::{Blank, Table};
 use ordering::operation::Words;
 
@@ -42,6 +44,18 @@ impl Line {
             Line::Invalid | Line::Shared(_) => None,
             Line::Exclusive(words) => Some(words),
         }
+    }
+
+    /// Whether the line is one at which a processor may ask for this.
+    pub(crate) fn fits(self, kind: Kind) -> bool
+        ensures { result ≡ fits self kind }
+    {
+        matches!(
+            (self, kind),
+            (Line::Invalid, Kind::Gets | Kind::Getx)
+                | (Line::Shared(_), Kind::Upg)
+                | (Line::Exclusive(_), Kind::Wb)
+        )
     }
 }
 

@@ -1,9 +1,10 @@
 //! What a processor does when a message reaches it, or none where there is no rule. The fields that a
 //! kind leaves empty, and who may send it, are not looked at here. `node` is the processor's own number.
 
-ghost use Rattle.std.specs.Prelude.{◌≡◌, is_some, unwrap_or, IfSome, None};
-ghost use Rattle.ordering.specs.Words.{no_words, first_word};
-ghost use Rattle.processor.specs.Receive.{giving_way, invalidated, downgraded, taking_line, taking, filled, granted, done, nacked, interrupt_entry, interrupted, fetched, fetched_from, receive};
+ghost use Rattle.std.specs.Prelude.{◌≡◌, IfSome, None};
+ghost use Rattle.ordering.specs.Words.{first_word};
+ghost use Rattle.processor.specs.Receive.{giving_way, invalidated, downgraded, taking_line, taking, filled, granted};
+ghost use Rattle.processor.specs.Receive.{done, nacked, interrupted, fetched, fetched_from, receive};
 
 use crate::line::Line;
 use crate::slot::Slot;
@@ -15,6 +16,9 @@ use message::reaction::Reaction;
 use ordering::operation::{Operation, Words};
 use ordering::stamp::Stamp;
 use trail::entry::Entry;
+
+/// The reaction to a message, or none where there is no rule.
+pub type Outcome = Option<Reaction<Processor<u64>>>;
 
 fn first_word(words: Words) -> u32
     ensures { result ≡ first_word words }
@@ -32,7 +36,7 @@ impl Processor {
         line: Line,
         owned: Option<Words>,
     ) -> Reaction<Processor<u64>>
-        ensures { result ≡ giving_way self node message.sender message.place line (is_some owned) (unwrap_or owned no_words) }
+        ensures { result ≡ giving_way self node message line owned }
     {
         let clock = self.clock.passed(self.clock.global);
         let next = Processor {
@@ -50,8 +54,8 @@ impl Processor {
     }
 
     // INV.
-    fn invalidated(self, node: u32, message: Message<u32>) -> Option<Reaction<Processor<u64>>>
-        ensures { result ≡ invalidated self node message.sender message.place }
+    fn invalidated(self, node: u32, message: Message<u32>) -> Outcome
+        ensures { result ≡ invalidated self node message }
     {
         let line = self.lines.get(message.place);
         if line == Line::Invalid {
@@ -61,8 +65,8 @@ impl Processor {
     }
 
     // DOWN.
-    fn downgraded(self, node: u32, message: Message<u32>) -> Option<Reaction<Processor<u64>>>
-        ensures { result ≡ downgraded self node message.sender message.place }
+    fn downgraded(self, node: u32, message: Message<u32>) -> Outcome
+        ensures { result ≡ downgraded self node message }
     {
         let words = self.lines.get(message.place).owned()?;
         Some(self.giving_way(node, message, Line::Shared(words), Some(words)))
@@ -70,7 +74,7 @@ impl Processor {
 
     // The request is answered.
     fn taking(self, node: u32, message: Message<u32>) -> Reaction<Processor<u64>>
-        ensures { result ≡ taking self node message.sender message.place message.clock }
+        ensures { result ≡ taking self node message }
     {
         let next = Processor {
             clock: self.clock.passed(message.clock),
@@ -82,7 +86,7 @@ impl Processor {
     }
 
     fn taking_line(self, node: u32, message: Message<u32>, line: Line) -> Reaction<Processor<u64>>
-        ensures { result ≡ taking_line self node message.sender message.place message.clock line }
+        ensures { result ≡ taking_line self node message line }
     {
         let next = Processor {
             lines: self.lines.with(message.place, line),
@@ -92,14 +96,8 @@ impl Processor {
     }
 
     // S-DATA and X-DATA, and the request that each answers.
-    fn filled(
-        self,
-        node: u32,
-        message: Message<u32>,
-        request: Kind,
-        line: Line,
-    ) -> Option<Reaction<Processor<u64>>>
-        ensures { result ≡ filled self node message.sender message.place message.clock request line }
+    fn filled(self, node: u32, message: Message<u32>, request: Kind, line: Line) -> Outcome
+        ensures { result ≡ filled self node message request line }
     {
         if !self.requests.is_out(message.place, request) {
             return None;
@@ -108,8 +106,8 @@ impl Processor {
     }
 
     // GRANT.
-    fn granted(self, node: u32, message: Message<u32>) -> Option<Reaction<Processor<u64>>>
-        ensures { result ≡ granted self node message.sender message.place message.clock }
+    fn granted(self, node: u32, message: Message<u32>) -> Outcome
+        ensures { result ≡ granted self node message }
     {
         let Line::Shared(words) = self.lines.get(message.place) else {
             return None;
@@ -118,8 +116,8 @@ impl Processor {
     }
 
     // DONE.
-    fn done(self, node: u32, message: Message<u32>) -> Option<Reaction<Processor<u64>>>
-        ensures { result ≡ done self node message.sender message.place message.clock }
+    fn done(self, node: u32, message: Message<u32>) -> Outcome
+        ensures { result ≡ done self node message }
     {
         if !self.requests.is_out(message.place, Kind::Wb) {
             return None;
@@ -128,8 +126,8 @@ impl Processor {
     }
 
     // NACK.
-    fn nacked(self, message: Message<u32>) -> Option<Reaction<Processor<u64>>>
-        ensures { result ≡ nacked self message.place message.refused }
+    fn nacked(self, message: Message<u32>) -> Outcome
+        ensures { result ≡ nacked self message }
     {
         if !self.requests.is_out(message.place, message.refused?) {
             return None;
@@ -143,7 +141,7 @@ impl Processor {
 
     // INT, an operation of the party that sent it.
     fn interrupted(self, node: u32, message: Message<u32>) -> Reaction<Processor<u64>>
-        ensures { result ≡ interrupted self node message.sender message.sequence (first_word message.words) message.clock }
+        ensures { result ≡ interrupted self node message }
     {
         let clock = self.clock.passed_and_counted(message.clock);
         let word = first_word(message.words);
@@ -165,7 +163,7 @@ impl Processor {
     }
 
     // VALUE.
-    fn fetched(self, device: u32, word: u32, clock: u32) -> Option<Reaction<Processor<u64>>>
+    fn fetched(self, device: u32, word: u32, clock: u32) -> Outcome
         ensures { result ≡ fetched self device word clock }
     {
         let slot = match self.slots.get(device) {
@@ -181,8 +179,8 @@ impl Processor {
         Some(Reaction::quiet(next))
     }
 
-    fn fetched_from(self, message: Message<u32>) -> Option<Reaction<Processor<u64>>>
-        ensures { result ≡ fetched_from self message.sender (first_word message.words) message.clock }
+    fn fetched_from(self, message: Message<u32>) -> Outcome
+        ensures { result ≡ fetched_from self message }
     {
         let Node::Device(device) = Node::numbered(message.sender)? else {
             return None;
@@ -191,7 +189,7 @@ impl Processor {
     }
 
     /// The reaction to a message, or none where there is no rule.
-    pub fn receive(self, node: u32, message: Message<u32>) -> Option<Reaction<Processor<u64>>>
+    pub fn receive(self, node: u32, message: Message<u32>) -> Outcome
         ensures value { result ≡ receive self node message }
         ensures quiet { IfSome result (λ x. x.answer ≡ None) }
     {

@@ -3,7 +3,7 @@
 ghost use Rattle.std.specs.Prelude.{◌≡◌};
 ghost use Rattle.processor.specs.Refusals.{refusal_number, refusal_place};
 
-#[derive(Clone, Copy)]
+#[derive(Clone, Copy, Debug, PartialEq, Eq)]
 pub enum Refusal {
     /// A load or store to a block of which no fit copy is held.
     NotHeld(u32),
@@ -20,6 +20,7 @@ pub enum Refusal {
 }
 
 impl Refusal {
+    /// The number by which it is told, from 3 to 8.
     pub fn number(self) -> u32
         ensures { result ≡ refusal_number self }
     {
@@ -33,6 +34,7 @@ impl Refusal {
         }
     }
 
+    /// The block or the device that stands in the way.
     pub fn place(self) -> u32
         ensures { result ≡ refusal_place self }
     {

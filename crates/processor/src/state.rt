@@ -6,11 +6,10 @@ ghost use Rattle.processor.specs.States.{made, settled_processor};
 
 use crate::line::Lines;
 use crate::slot::Slots;
-use message::requests::Requests;
-use message::table::Table;
+use message::table::{Requests, Table};
 use ordering::clock::{Clock, Settle, settled_next};
 
-#[derive(Clone, Copy)]
+#[derive(Clone, Copy, Debug, PartialEq, Eq)]
 pub struct Processor<N = u32> {
     pub clock: Clock<N>,
     /// The number of its next operation.

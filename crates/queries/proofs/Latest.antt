@@ -7,7 +7,7 @@ use Rattle.std.proofs.lemmas.Bool.Decides.{nat_tests}
 use Rattle.std.specs.List.{slice_get}
 use Rattle.queries.proofs.Choice.{falls}
 use Rattle.trail.specs.Addresses.{value_at}
-use Rattle.queries.specs.Search.{later, latest, told, LatestWrite}
+use Rattle.queries.specs.Search.{later, latest, found, LatestWrite}
 use Rattle.queries.specs.declared.source.Candidate.{Candidate}
 use Rattle.trail.specs.Sources.{writes_below, Source}
 use Rattle.trail.specs.declared.address.Address.{Address}
@@ -20,21 +20,50 @@ module _ (a : Address) (s : Stamp) where
   abbrev Nowhere : List Entry → Type 0
   Nowhere es = (m : ℕ) (e : Entry) → slice_get es m ≡ Some e → writes_below a s e ≡ false
 
+  -- such a write offers the candidate with its value and its stamp
+  record Offers (write : Entry) (c : Candidate) : Type 0 where
+    writes : writes_below a s write ≡ true
+    value : c.value ≡ value_at write a
+    stamp : c.stamp ≡ write.stamp
+
   -- what is chosen among entries that are numbered from n on
   record Chosen (n : ℕ) (es : List Entry) (c : Candidate) : Type 0 where
     place : ℕ
     numbered : c.entry ≡ n + place
     write : Entry
     stands : slice_get es place ≡ Some write
-    writes : writes_below a s write ≡ true
-    value : c.value ≡ value_at write a
-    stamp : c.stamp ≡ write.stamp
-    greatest : (m : ℕ) (e : Entry) → slice_get es m ≡ Some e → writes_below a s e ≡ true → below write.stamp e.stamp ≡ false
-    first : (m : ℕ) (e : Entry) → m < place → slice_get es m ≡ Some e → writes_below a s e ≡ true → below e.stamp write.stamp ≡ true
+    offers : Offers write c
+    greatest : (m : ℕ) (e : Entry) → slice_get es m ≡ Some e → writes_below a s e ≡ true
+        → below write.stamp e.stamp ≡ false
+    first : (m : ℕ) (e : Entry) → m < place → slice_get es m ≡ Some e → writes_below a s e ≡ true
+        → below e.stamp write.stamp ≡ true
 
   abbrev Law : ℕ → List Entry → Option Candidate → Type 0
   Law n es None = Nowhere es
   Law n es (Some c) = Chosen n es c
+
+  -- what is chosen among the others stays chosen behind an entry that, if it is such a write, has a lower stamp
+  behind : (n : ℕ) (e : Entry) (es : List Entry) (c : Candidate) (law : Chosen (n + 1) es c)
+      → ((f : Entry) → ◌≡◌ {A = Option Entry} (Some e) (Some f) → writes_below a s f ≡ true
+      → (below law.write.stamp f.stamp ≡ false) × (below f.stamp law.write.stamp ≡ true))
+      → Chosen n (e ∷ es) c
+  behind n e es c law lower = record {
+    place = suc law.place;
+    numbered = omega (arith, law.numbered);
+    write = law.write;
+    stands = law.stands;
+    offers = law.offers;
+    greatest = greatest;
+    first = first;
+  }
+    where
+      greatest : (m : ℕ) (f : Entry) → slice_get (e ∷ es) m ≡ Some f → writes_below a s f ≡ true → below law.write.stamp f.stamp ≡ false
+      greatest zero f h w = (lower f h w).0
+      greatest (suc m) f h w = law.greatest m f h w
+
+      first : (m : ℕ) (f : Entry) → m < suc law.place → slice_get (e ∷ es) m ≡ Some f → writes_below a s f ≡ true → below f.stamp law.write.stamp ≡ true
+      first zero f l h w = (lower f h w).1
+      first (suc m) f l h w = law.first m f (omega arith) h w
 
   -- an entry before the others that is no such write
   passed_over : (n : ℕ) (e : Entry) (es : List Entry) → writes_below a s e ≡ false → (r : Option Candidate) → Law (n + 1) es r → Law n (e ∷ es) r
@@ -43,25 +72,7 @@ module _ (a : Address) (s : Stamp) where
       nowhere : Nowhere (e ∷ es)
       nowhere zero f h = cc
       nowhere (suc m) f h = law m f h
-  passed_over n e es no_write (Some c) law = record {
-    place = suc law.place;
-    numbered = omega (arith, law.numbered);
-    write = law.write;
-    stands = law.stands;
-    writes = law.writes;
-    value = law.value;
-    stamp = law.stamp;
-    greatest = greatest;
-    first = first;
-  }
-    where
-      greatest : (m : ℕ) (f : Entry) → slice_get (e ∷ es) m ≡ Some f → writes_below a s f ≡ true → below law.write.stamp f.stamp ≡ false
-      greatest zero f h w = absurd (cc)
-      greatest (suc m) f h w = law.greatest m f h w
-
-      first : (m : ℕ) (f : Entry) → m < suc law.place → slice_get (e ∷ es) m ≡ Some f → writes_below a s f ≡ true → below f.stamp law.write.stamp ≡ true
-      first zero f l h w = absurd (cc)
-      first (suc m) f l h w = law.first m f (omega arith) h w
+  passed_over n e es no_write (Some c) law = behind n e es c law (λ f same w. absurd (cc))
 
   abbrev offered : ℕ → Entry → Candidate
   offered n e = record { entry = n; value = value_at e a; stamp = e.stamp }
@@ -74,9 +85,7 @@ module _ (a : Address) (s : Stamp) where
     numbered = omega arith;
     write = e;
     stands = refl;
-    writes = is_write;
-    value = refl;
-    stamp = refl;
+    offers = record { writes = is_write; value = refl; stamp = refl };
     greatest = greatest;
     first = λ m f l h w. absurd (omega (arith, l));
   }
@@ -87,28 +96,10 @@ module _ (a : Address) (s : Stamp) where
 
   -- an entry that a later one is above
   yields : (n : ℕ) (e : Entry) (es : List Entry) (c : Candidate) → Chosen (n + 1) es c → below e.stamp c.stamp ≡ true → Chosen n (e ∷ es) c
-  yields n e es c law up = record {
-    place = suc law.place;
-    numbered = omega (arith, law.numbered);
-    write = law.write;
-    stands = law.stands;
-    writes = law.writes;
-    value = law.value;
-    stamp = law.stamp;
-    greatest = greatest;
-    first = first;
-  }
-    where
-      over : below e.stamp law.write.stamp ≡ true
-      over = cc
-
-      greatest : (m : ℕ) (f : Entry) → slice_get (e ∷ es) m ≡ Some f → writes_below a s f ≡ true → below law.write.stamp f.stamp ≡ false
-      greatest zero f h w = let back = asymmetric e.stamp law.write.stamp over in cc
-      greatest (suc m) f h w = law.greatest m f h w
-
-      first : (m : ℕ) (f : Entry) → m < suc law.place → slice_get (e ∷ es) m ≡ Some f → writes_below a s f ≡ true → below f.stamp law.write.stamp ≡ true
-      first zero f l h w = cc
-      first (suc m) f l h w = law.first m f (omega arith) h w
+  yields n e es c law up =
+      let over : below e.stamp law.write.stamp ≡ true = ap (below e.stamp) (sym law.offers.stamp) ∙ up in
+      let back = asymmetric e.stamp law.write.stamp over in
+      behind n e es c law (λ f same w. (cc, cc))
 
   chosen_over : (n : ℕ) (e : Entry) (es : List Entry) → writes_below a s e ≡ true → (r : Option Candidate) → Law (n + 1) es r
       → Law n (e ∷ es) (later (Some (offered n e)) r)
@@ -117,7 +108,9 @@ module _ (a : Address) (s : Stamp) where
     where
       go : (up : Bool) → below e.stamp c.stamp ≡ up → Law n (e ∷ es) (cond up (Some c) (Some (offered n e)))
       go true up = yields n e es c law up
-      go false up = keeps n e es is_write (λ m f h w. falls e.stamp law.write.stamp f.stamp (ap (below e.stamp) (sym law.stamp) ∙ up) (law.greatest m f h w))
+      go false up =
+          let up_to : below e.stamp law.write.stamp ≡ false = ap (below e.stamp) (sym law.offers.stamp) ∙ up in
+          keeps n e es is_write (λ m f h w. falls e.stamp law.write.stamp f.stamp up_to (law.greatest m f h w))
 
   chosen : (n : ℕ) (es : List Entry) → Law n es (latest a s n es)
   chosen n [] = λ m e h. absurd (cc)
@@ -131,15 +124,15 @@ module _ (a : Address) (s : Stamp) where
 pub latest_write : LatestWrite
 latest_write trail a s = go (latest a s 0 trail) (chosen a s 0 trail)
   where
-    go : (r : Option Candidate) → Law a s 0 trail r → Source trail a s (told r)
+    go : (r : Option Candidate) → Law a s 0 trail r → Source trail a s (found r)
     go None law = law
     go (Some c) law =
         let at : law.place ≡ c.entry = omega (arith, law.numbered) in
         record {
           write = law.write;
           stands = ap (slice_get trail) (sym at) ∙ law.stands;
-          writes = law.writes;
-          value = law.value;
+          writes = law.offers.writes;
+          value = law.offers.value;
           greatest = law.greatest;
           first = λ m e l h w. law.first m e (omega arith) h w;
         }

@@ -43,8 +43,8 @@ fn later(first: Option<Candidate>, second: Option<Candidate>) -> Option<Candidat
     }
 }
 
+// A loop that keeps the latest so far: nothing is gathered, and of equal stamps the first stays.
 #[tactic(auto, using(crate::proofs::Choice::latest_more))]
-// By rule a loop over the entries that keeps the latest so far.
 fn latest(trail: &[Entry], address: Address, reader: Stamp) -> Option<Candidate>
     ensures { result ≡ latest address reader 0 trail.now }
 {

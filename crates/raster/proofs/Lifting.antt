@@ -1,70 +1,65 @@
--- What is committed at one bridge is what is committed in the world.
-use Rattle.std.proofs.Common.{◌≡◌, ℕ, ◌+◌, Bool, true, false, cond, leb, List, length, Some, None, Ok, Err, Option, Result, refl, ap, ◌∙◌}
+-- What is committed at one node is what is committed in the world.
+use Rattle.std.proofs.Common.{◌≡◌, ℕ, Ok, Err, Some, None, Option, Result, refl, ap, ◌∙◌}
 use Rattle.bridge.specs.declared.state.Bridge.{Bridge}
 use Rattle.bridge.specs.declared.fault.DeviceFault.{DeviceFault}
-use Rattle.coherence.specs.Steps.{Answer, committed, by_first, by_second, bridge_within, wished, ruled, waiting, settled}
-use Rattle.coherence.specs.declared.call.Call.{Call}
+use Rattle.coherence.specs.Steps.{Answer, committed, fits, by_first, by_second, wished, ruled, settled}
+use Rattle.coherence.specs.declared.call.Call.TheVariants.{Act, Deliver}
+use Rattle.coherence.specs.declared.fault.Fault.{Fault}
 use Rattle.device.specs.Meaning.{Meaning}
-use Rattle.coherence.specs.Worlds.{World, with_first, with_second, with_lists}
-use Rattle.message.specs.Reactions.{sent_count}
-use Rattle.message.specs.declared.message.Message.{Message}
+use Rattle.coherence.specs.Worlds.{World, with_first, with_second}
 use Rattle.message.specs.declared.reaction.Reaction.{Reaction}
-use Rattle.std.specs.Option.{option_to_list, option_map}
-use Rattle.trail.specs.declared.entry.Entry.{Entry}
-use Rattle.raster.specs.Fitting.{plan_committed, bridge_committed, by_wish, by_rule}
+use Rattle.std.specs.Option.{option_map}
+use Rattle.raster.specs.Commits.{bridge_committed, by_wish, by_rule}
+use Rattle.raster.specs.Lists.{Lists, left}
 
-abbrev Parts : Type 0 → Type 0
-Parts S = Answer × Bridge S ℕ × List (Message ℕ) × List Entry
+-- A world's lists, and a world with other ones.
+abbrev world_lists : {A B : Type 0} → World A B → Lists
+world_lists w = record { messages = w.messages; trail = w.trail; message_room = w.message_room; trail_room = w.trail_room }
 
--- A choice by three tests, under a function.
-chosen : {X Y : Type 0} (F : X → Y) (a b c : Bool) (p q r s : X)
-    → F (cond a (cond b (cond c p q) r) s) ≡ cond a (cond b (cond c (F p) (F q)) (F r)) (F s)
-chosen F true true true p q r s = refl
-chosen F true true false p q r s = refl
-chosen F true false c p q r s = refl
-chosen F false b c p q r s = refl
+abbrev with_both : {A B : Type 0} → World A B → Lists → World A B
+with_both w l = record w { messages = l.messages; trail = l.trail; message_room = l.message_room; trail_room = l.trail_room }
 
-module _ {A B : Type 0} (w : World A B) (ws : List (Message ℕ)) where
-  first_lifts : (x : Reaction (Bridge A ℕ)) (o : Parts A)
-      → o ≡ plan_committed 0 w.first x w.messages ws w.message_room w.trail w.trail_room
-      → (o.0, with_lists (with_first w o.1) o.2 o.3) ≡ committed w ws (by_first w x)
-  first_lifts x o is =
-      ap (λ (o : Parts A). (o.0, with_lists (with_first w o.1) o.2 o.3)) is
-      ∙ chosen (λ (o : Parts A). (o.0, with_lists (with_first w o.1) o.2 o.3)) (leb (length ws + sent_count x.sent) w.message_room)
-      (leb (length w.trail + length (option_to_list x.entry)) w.trail_room) (bridge_within x.next) _ _ _ _
+-- A function of what is done, or of the fault.
+through : {X Y : Type 0} (F : X → Y) (t : Result (Unit {0}) Fault) (done : X) (undone : Fault → X)
+    → F (elim t [ Ok u ↦ done | Err f ↦ undone f ]) ≡ elim t [ Ok u ↦ F done | Err f ↦ F (undone f) ]
+through F (Ok u) done undone = refl
+through F (Err f) done undone = refl
 
-  second_lifts : (x : Reaction (Bridge B ℕ)) (o : Parts B)
-      → o ≡ plan_committed 1 w.second x w.messages ws w.message_room w.trail w.trail_room
-      → (o.0, with_lists (with_second w o.1) o.2 o.3) ≡ committed w ws (by_second w x)
-  second_lifts x o is =
-      ap (λ (o : Parts B). (o.0, with_lists (with_second w o.1) o.2 o.3)) is
-      ∙ chosen (λ (o : Parts B). (o.0, with_lists (with_second w o.1) o.2 o.3)) (leb (length ws + sent_count x.sent) w.message_room)
-      (leb (length w.trail + length (option_to_list x.entry)) w.trail_room) (bridge_within x.next) _ _ _ _
+module _ {A B : Type 0} (w : World A B) (taken : Option ℕ) where
+  abbrev at_first : Answer × Bridge A ℕ × Lists → Answer × World A B
+  at_first o = (o.0, with_both (with_first w o.1) o.2)
 
-module _ {A B : Type 0} (ma : Meaning A) (mb : Meaning B) (c : Call) (w : World A B) where
-  abbrev waits : List (Message ℕ)
-  waits = waiting ma mb c w
+  abbrev at_second : Answer × Bridge B ℕ × Lists → Answer × World A B
+  at_second o = (o.0, with_both (with_second w o.1) o.2)
 
-  pub first_wish : (r : Result (Reaction (Bridge A ℕ)) DeviceFault) (o : Parts A)
-      → o ≡ bridge_committed 0 w.first (by_wish r) w.messages waits w.message_room w.trail w.trail_room
-      → (o.0, with_lists (with_first w o.1) o.2 o.3) ≡ settled ma mb c w (wished (by_first w) r)
-  first_wish (Ok x) o is = first_lifts w waits x o is
-  first_wish (Err f) o is = ap (λ (o : Parts A). (o.0, with_lists (with_first w o.1) o.2 o.3)) is
+  first_lifts : (x : Reaction (Bridge A ℕ))
+      → at_first (bridge_committed 0 w.first (Ok x) taken (world_lists w)) ≡ committed w (left w.messages taken) (by_first w x)
+  first_lifts x = through at_first (fits w (left w.messages taken) (by_first w x)) _ _
 
-  pub second_wish : (r : Result (Reaction (Bridge B ℕ)) DeviceFault) (o : Parts B)
-      → o ≡ bridge_committed 1 w.second (by_wish r) w.messages waits w.message_room w.trail w.trail_room
-      → (o.0, with_lists (with_second w o.1) o.2 o.3) ≡ settled ma mb c w (wished (by_second w) r)
-  second_wish (Ok x) o is = second_lifts w waits x o is
-  second_wish (Err f) o is = ap (λ (o : Parts B). (o.0, with_lists (with_second w o.1) o.2 o.3)) is
+  second_lifts : (x : Reaction (Bridge B ℕ))
+      → at_second (bridge_committed 1 w.second (Ok x) taken (world_lists w)) ≡ committed w (left w.messages taken) (by_second w x)
+  second_lifts x = through at_second (fits w (left w.messages taken) (by_second w x)) _ _
 
-  pub first_rule : (i : ℕ) (r : Option (Reaction (Bridge A ℕ))) (o : Parts A)
-      → o ≡ bridge_committed 0 w.first (by_rule i r) w.messages waits w.message_room w.trail w.trail_room
-      → (o.0, with_lists (with_first w o.1) o.2 o.3) ≡ settled ma mb c w (ruled ma mb w i (option_map (by_first w) r))
-  first_rule i (Some x) o is = first_lifts w waits x o is
-  first_rule i None o is = ap (λ (o : Parts A). (o.0, with_lists (with_first w o.1) o.2 o.3)) is
+-- So what is done at one bridge is what a step does: at its device's wish, and at a message.
+module _ {A B : Type 0} (ma : Meaning A) (mb : Meaning B) (w : World A B) where
+  pub first_wish : (d : ℕ) (r : Result (Reaction (Bridge A ℕ)) DeviceFault) (o : Answer × Bridge A ℕ × Lists)
+      → o ≡ bridge_committed 0 w.first (by_wish r) None (world_lists w) → at_first w None o ≡ settled ma mb (Act d) w (wished (by_first w) r)
+  first_wish d (Ok x) o is = ap (at_first w None) is ∙ first_lifts w None x
+  first_wish d (Err f) o is = ap (at_first w None) is
 
-  pub second_rule : (i : ℕ) (r : Option (Reaction (Bridge B ℕ))) (o : Parts B)
-      → o ≡ bridge_committed 1 w.second (by_rule i r) w.messages waits w.message_room w.trail w.trail_room
-      → (o.0, with_lists (with_second w o.1) o.2 o.3) ≡ settled ma mb c w (ruled ma mb w i (option_map (by_second w) r))
-  second_rule i (Some x) o is = second_lifts w waits x o is
-  second_rule i None o is = ap (λ (o : Parts B). (o.0, with_lists (with_second w o.1) o.2 o.3)) is
+  pub second_wish : (d : ℕ) (r : Result (Reaction (Bridge B ℕ)) DeviceFault) (o : Answer × Bridge B ℕ × Lists)
+      → o ≡ bridge_committed 1 w.second (by_wish r) None (world_lists w) → at_second w None o ≡ settled ma mb (Act d) w (wished (by_second w) r)
+  second_wish d (Ok x) o is = ap (at_second w None) is ∙ second_lifts w None x
+  second_wish d (Err f) o is = ap (at_second w None) is
+
+  pub first_rule : (i : ℕ) (r : Option (Reaction (Bridge A ℕ))) (o : Answer × Bridge A ℕ × Lists)
+      → o ≡ bridge_committed 0 w.first (by_rule i r) (Some i) (world_lists w)
+      → at_first w (Some i) o ≡ settled ma mb (Deliver i) w (ruled ma mb w i (option_map (by_first w) r))
+  first_rule i (Some x) o is = ap (at_first w (Some i)) is ∙ first_lifts w (Some i) x
+  first_rule i None o is = ap (at_first w (Some i)) is
+
+  pub second_rule : (i : ℕ) (r : Option (Reaction (Bridge B ℕ))) (o : Answer × Bridge B ℕ × Lists)
+      → o ≡ bridge_committed 1 w.second (by_rule i r) (Some i) (world_lists w)
+      → at_second w (Some i) o ≡ settled ma mb (Deliver i) w (ruled ma mb w i (option_map (by_second w) r))
+  second_rule i (Some x) o is = ap (at_second w (Some i)) is ∙ second_lifts w (Some i) x
+  second_rule i None o is = ap (at_second w (Some i)) is

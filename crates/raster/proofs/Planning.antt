@@ -1,5 +1,5 @@
 -- What a plan leads to is what it says: its messages, its entries and its numbers.
-use Rattle.std.proofs.Common.{◌≡◌, ℕ, ◌+◌, ◌≤◌, cond, List, ◌++◌, length, is_some, Some, None, Ok, Err, Option, Result, refl, ap, ◌∙◌, arith}
+use Rattle.std.proofs.Common.{◌≡◌, ℕ, ◌+◌, ◌≤◌, cond, length, is_some, Some, None, Ok, Err, Option, Result, refl, ap, ◌∙◌, arith}
 use Rattle.bridge.proofs.Writing.{plans_are_kept}
 use Rattle.bridge.specs.Deeds.{performed}
 use Rattle.bridge.specs.Plans.{sends, enters, plan_within}
@@ -9,14 +9,13 @@ use Rattle.bridge.specs.declared.plan.Plan.{Plan}
 use Rattle.bridge.specs.declared.state.Bridge.{Bridge}
 use Rattle.coherence.specs.Steps.{bridge_within}
 use Rattle.device.specs.Meaning.{Meaning}
-use Rattle.message.specs.Reactions.{sent, sent_count}
+use Rattle.message.specs.Reactions.{sent_count}
 use Rattle.message.specs.declared.reaction.Reaction.{Reaction}
 use Rattle.coherence.specs.declared.fault.Fault.{Fault}
-use Rattle.message.specs.declared.message.Message.{Message}
 use Rattle.std.proofs.lemmas.Bool.Decides.{nat_tests}
-use Rattle.trail.specs.declared.entry.Entry.{Entry}
 use Rattle.std.specs.Option.{option_to_list}
-use Rattle.raster.specs.Fitting.{planned, fitting, plan_committed}
+use Rattle.raster.specs.Commits.{planned, fitting, bridge_committed}
+use Rattle.raster.specs.Lists.{Lists, left, posted}
 
 pub record Kept {S : Type 0} (p : Plan ℕ) (x : Reaction (Bridge S ℕ)) : Type 0 where
   pub messages : sent_count x.sent ≡ sends p.deed
@@ -54,15 +53,14 @@ module _ {S : Type 0} (m : Meaning S) (d : ℕ) (b : Bridge S ℕ) where
       }
 
 -- What fits is committed: the plan with its numbers at rest, done, is what the plan leads to.
-module _ {S : Type 0} (m : Meaning S) (d : ℕ) (b : Bridge S ℕ) (p : Plan ℕ) (ws : List (Message ℕ)) (mr : ℕ) (es : List Entry) (tr : ℕ) where
-  pub refuses : (r : Result (Plan ℕ) Fault) (f : Fault) (ms : List (Message ℕ)) → r ≡ Err f
-      → r ≡ fitting d p (length ws) (sends p.deed) mr (length es) (cond (enters p.deed) 1 0) tr
-      → (Err f, b, ms, es) ≡ plan_committed d b (planned m d b p) ms ws mr es tr
-  refuses r f ms is fits = let k = keeps m d b p in let s = k.messages in let e = k.entries in let w = k.within in grind (arith, nat_tests)
+module _ {S : Type 0} (m : Meaning S) (d : ℕ) (b : Bridge S ℕ) (p : Plan ℕ) (taken : Option ℕ) (l : Lists) where
+  pub refuses : (r : Result (Plan ℕ) Fault) (f : Fault) → r ≡ Err f → r ≡ fitting d p taken l
+      → (Err f, b, l) ≡ bridge_committed d b (Ok (planned m d b p)) taken l
+  refuses r f is fits = let k = keeps m d b p in let s = k.messages in let e = k.entries in let w = k.within in grind (arith, nat_tests)
 
-  pub has_room : (r : Result (Plan ℕ) Fault) (q : Plan ℕ) → r ≡ Ok q
-      → r ≡ fitting d p (length ws) (sends p.deed) mr (length es) (cond (enters p.deed) 1 0) tr
-      → (length ws + sent_count (planned m d b q).sent ≤ mr) × (length es + length (option_to_list (planned m d b q).entry) ≤ tr)
+  pub has_room : (r : Result (Plan ℕ) Fault) (q : Plan ℕ) → r ≡ Ok q → r ≡ fitting d p taken l
+      → (length (left l.messages taken) + sent_count (planned m d b q).sent ≤ l.message_room)
+      × (length l.trail + length (option_to_list (planned m d b q).entry) ≤ l.trail_room)
   has_room r q is fits =
       let k = keeps m d b p in
       let s = k.messages in
@@ -71,11 +69,10 @@ module _ {S : Type 0} (m : Meaning S) (d : ℕ) (b : Bridge S ℕ) (p : Plan ℕ
       let same : q ≡ p = grind (arith, nat_tests) in
       rw same (grind (arith, nat_tests))
 
-  pub commits : (r : Result (Plan ℕ) Fault) (q : Plan ℕ) (ms : List (Message ℕ)) → r ≡ Ok q
-      → r ≡ fitting d p (length ws) (sends p.deed) mr (length es) (cond (enters p.deed) 1 0) tr
-      → (Ok None, (planned m d b q).next, ws ++ sent (planned m d b q).sent, es ++ option_to_list (planned m d b q).entry)
-      ≡ plan_committed d b (planned m d b p) ms ws mr es tr
-  commits r q ms is fits =
+  pub commits : (r : Result (Plan ℕ) Fault) (q : Plan ℕ) → r ≡ Ok q → r ≡ fitting d p taken l
+      → (Ok None, (planned m d b q).next, posted l taken (planned m d b q).sent (planned m d b q).entry)
+      ≡ bridge_committed d b (Ok (planned m d b p)) taken l
+  commits r q is fits =
       let k = keeps m d b p in
       let s = k.messages in
       let e = k.entries in

@@ -1,5 +1,6 @@
 -- One call more: the world and the answers after it.
 use Rattle.std.proofs.Common.{◌≡◌, ℕ, suc, ◌+◌, ◌<◌, List, [], ◌∷◌, ◌++◌, length, get_or, take, set, sym, refl, ap, ◌∙◌, arith}
+use Rattle.coherence.proofs.OrderPromise.{order_promise}
 use Rattle.coherence.proofs.Running.{answered_world}
 use Rattle.coherence.specs.Histories.{History, called_on, after_calls, began, run}
 use Rattle.coherence.specs.Makings.{Making, make}
@@ -7,9 +8,9 @@ use Rattle.coherence.specs.Steps.{Answer, step}
 use Rattle.coherence.specs.Worlds.{World}
 use Rattle.coherence.specs.declared.call.Call.{Call}
 use Rattle.coherence.specs.declared.call.Call.TheVariants.{Load}
-use Rattle.device.specs.Meaning.{Meaning}
+use Rattle.device.specs.Meaning.{Meaning, Laws}
 use Rattle.std.proofs.lemmas.List.{length-take-le, take_more}
-use Rattle.raster.specs.Runs.{world_after, answers_of, overlaid}
+use Rattle.raster.specs.Runs.{world_after, answers_of, overlaid, CallsComeTo, RunComesTo}
 
 pub overlaid_none : {X : Type 0} (xs : List X) → overlaid xs [] ≡ xs
 overlaid_none [] = refl
@@ -49,20 +50,22 @@ module _ {A B : Type 0} (ma : Meaning A) (mb : Meaning B) where
       let more = ap (answers_of ma mb w) (take_more cs i d h) ∙ answers_push w (take i cs) (get_or cs i d) in
       sym (ap (overlaid was) more ∙ overlaid_more was now new ∙ ap (λ (n : ℕ). set (overlaid was now) n new) long)
 
-  -- a call made on the world so far
-  pub turned : (start : World A B) (cs : List Call) (i : ℕ) (w v : World A B) → i < length cs → w ≡ world_after ma mb start (take i cs)
-      → v ≡ (step ma mb (get_or cs i (Load 0 0)) w).1 → v ≡ world_after ma mb start (take (i + 1) cs)
-  turned start cs i w v h at made = made ∙ ap (λ (x : World A B). (step ma mb (get_or cs i (Load 0 0)) x).1) at ∙ world_more start cs i (Load 0 0) h
+  -- a call made on the world so far, and its answer written behind those so far
+  pub turned : (start : World A B) (cs : List Call) (i : ℕ) (was so_far : List Answer) (w v : World A B) (r : Answer) → i < length cs
+      → CallsComeTo ma mb start (take i cs) was so_far w → (r, v) ≡ step ma mb (get_or cs i (Load 0 0)) w
+      → CallsComeTo ma mb start (take (i + 1) cs) was (set so_far i r) v
+  turned start cs i was so_far w v r h before made =
+      let made_at = made ∙ ap (λ (x : World A B). step ma mb (get_or cs i (Load 0 0)) x) before.world in
+      record {
+        world = ap (λ (o : Answer × World A B). o.1) made_at ∙ world_more start cs i (Load 0 0) h;
+        answers =
+            ap (λ (xs : List Answer). set xs i r) before.answers
+            ∙ ap (λ (o : Answer × World A B). set (overlaid was (answers_of ma mb start (take i cs))) i o.0) made_at
+            ∙ answers_more start cs i (Load 0 0) was h;
+      }
 
-  -- its answer, written behind those so far
-  pub noted : (start : World A B) (cs : List Call) (i : ℕ) (was so_far now : List Answer) (w : World A B) → i < length cs
-      → w ≡ world_after ma mb start (take i cs) → so_far ≡ overlaid was (answers_of ma mb start (take i cs))
-      → now ≡ set so_far i (step ma mb (get_or cs i (Load 0 0)) w).0 → now ≡ overlaid was (answers_of ma mb start (take (i + 1) cs))
-  noted start cs i was so_far now w h at told made =
-      made
-      ∙ ap (λ (xs : List Answer). set xs i (step ma mb (get_or cs i (Load 0 0)) w).0) told
-      ∙ ap (λ (x : World A B). set (overlaid was (answers_of ma mb start (take i cs))) i (step ma mb (get_or cs i (Load 0 0)) x).0) at
-      ∙ answers_more start cs i (Load 0 0) was h
+  pub none_called : (w : World A B) (was : List Answer) → CallsComeTo ma mb w [] was was w
+  none_called w was = record { world = refl; answers = sym (overlaid_none was) }
 
   after_world : (h : History A B) (cs : List Call) → (after_calls ma mb h cs).world ≡ world_after ma mb h.world cs
   after_world h [] = refl
@@ -74,5 +77,11 @@ module _ {A B : Type 0} (ma : Meaning A) (mb : Meaning B) where
   pub run_world : (k : Making A B) (cs : List Call) → (run ma mb k cs).world ≡ world_after ma mb (make ma mb k) cs
   run_world k cs = after_world (began ma mb k) cs
 
--- What a loop over calls needs of each.
-pub ruleset turns = (turned, noted, overlaid_none)
+  -- A making and then calls, with the run's promise.
+  pub ran : Laws ma → Laws mb → (k : Making A B) (cs : List Call) (before now : List Answer) (w v : World A B) → w ≡ make ma mb k
+      → CallsComeTo ma mb w cs before now v → RunComesTo ma mb k cs before now v
+  ran la lb k cs before now w v made called = record {
+    calls = rw (sym made) called;
+    history = run_world k cs;
+    promise = order_promise ma mb la lb k cs;
+  }

@@ -1,31 +1,43 @@
--- What a call tells, as the answer of a step.
-use Rattle.std.specs.Prelude.{ℕ, ◌+◌, Bool, cond, List, Some, None, Ok, Err, Option, Result, nat_le}
+-- What a call answers, as the answer of a step.
+use Rattle.std.specs.Prelude.{ℕ, Bool, List, Some, None, Ok, Err, Option, Result}
 use Rattle.coherence.specs.Steps.{Answer, check}
-use Rattle.coherence.specs.declared.fault.BoardFault.TheVariants.{NotFit, Argument, TrailFull}
+use Rattle.coherence.specs.declared.call.Call.{Call}
+use Rattle.coherence.specs.declared.call.Call.TheVariants.{Collect, GiveUp}
+use Rattle.coherence.specs.declared.fault.BoardFault.TheVariants.{NotFit, Argument}
 use Rattle.coherence.specs.declared.fault.Fault.{Fault}
-use Rattle.coherence.specs.declared.fault.Fault.TheVariants.{Network, Board}
-use Rattle.coherence.specs.declared.fault.NetworkFault.TheVariants.{MessagesFull}
+use Rattle.coherence.specs.declared.fault.Fault.TheVariants.{Board}
 use Rattle.queries.specs.Search.{source_of}
 use Rattle.trail.specs.Faults.{fault_place}
 use Rattle.trail.specs.declared.entry.Entry.{Entry}
 use Rattle.trail.specs.declared.fault.SourceFault.{SourceFault}
+use Rattle.raster.specs.declared.ticket.Ticket.{Ticket}
 
--- A word was told.
-abbrev pub told : Result ℕ Fault → Answer
-told (Ok v) = Ok (Some v)
-told (Err f) = Err f
+-- A word.
+abbrev pub word_answer : Result ℕ Fault → Answer
+word_answer (Ok v) = Ok (Some v)
+word_answer (Err f) = Err f
 
 -- The call was made, and tells nothing.
-abbrev pub done : Result (Unit {0}) Fault → Answer
-done (Ok u) = Ok None
-done (Err f) = Err f
+abbrev pub done_answer : Result (Unit {0}) Fault → Answer
+done_answer (Ok u) = Ok None
+done_answer (Err f) = Err f
 
--- Whether both lists have room: messages, trail, each by what is there, what comes and the room.
-abbrev pub roomy : ℕ → ℕ → ℕ → ℕ → ℕ → ℕ → Result (Unit {0}) Fault
-roomy m s mr t e tr =
-    cond (nat_le (m + s) mr)
-    (cond (nat_le (t + e) tr) (Ok tt) (Err (Board (TrailFull tr))))
-    (Err (Network (MessagesFull mr)))
+-- An accepted LDio gives a ticket, and tells nothing.
+abbrev pub ticket_answer : Result Ticket Fault → Answer
+ticket_answer (Ok t) = Ok None
+ticket_answer (Err f) = Err f
+
+-- The calls that spend a ticket.
+abbrev pub collect_by : Ticket → Call
+collect_by t = Collect t.processor t.device
+
+abbrev pub give_up_by : Ticket → Call
+give_up_by t = GiveUp t.processor t.device
+
+-- A refusal hands the ticket back.
+abbrev pub refusal : {R : Type 0} → Result R (Fault × Ticket) → Result R Fault
+refusal (Ok x) = Ok x
+refusal (Err e) = Err e.0
 
 -- A source, or which argument is outside its range.
 abbrev pub as_arguments : {R : Type 0} → Result R SourceFault → Result R Fault

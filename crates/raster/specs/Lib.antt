@@ -1,6 +1,7 @@
 pub mod Answers
 pub mod Boards
-pub mod Fitting
+pub mod Calls
+pub mod Commits
+pub mod Lists
 pub mod Picking
 pub mod Runs
-pub mod Tickets

@@ -16,7 +16,8 @@ unless_older (Some o) m = Err (Network (OlderWaits o))
 
 -- The message at place i, if no older one of its pair waits.
 abbrev pub picked : List (Message ℕ) → ℕ → Result (Message ℕ) Fault
-picked ms i = check (nat_lt i (length ms)) (argument 1) (unless_older (oldest_of_pair ms i) (slice_index_or ms i no_message))
+picked ms i =
+    check (nat_lt i (length ms)) (argument 1) (unless_older (oldest_of_pair ms i) (slice_index_or ms i no_message))
 
 -- A processor or a home that the tables have.
 abbrev pub There : Option Node → Type 0

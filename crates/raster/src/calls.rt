@@ -1,14 +1,13 @@
-//! The calls of a board, by name or any of them as one. Each is a step, and goes on with whatever run its board was reached
-//! in, which keeps the order promise. The steps stand in functions of their own, since a body with many returns would owe the
-//! promise at each.
+//! The calls of a board, by name or any of them as one, and where a word of a read came from. Each call is a step, and
+//! goes on with whatever run its board was reached in, which keeps the order promise. The steps stand in functions of
+//! their own, since a body with many returns would owe the promise at each.
 
 ghost use Rattle.std.specs.Prelude.{◌≡◌};
-ghost use Rattle.coherence.specs.Steps.{step};
-ghost use Rattle.coherence.specs.declared.call.Call.TheVariants.{Load, Store, Request, LdIo, StIo, Collect, GiveUp, Act, Deliver, Poll};
+ghost use Rattle.coherence.specs.declared.call.Call.TheVariants.{Load, Store, Request, LdIo, StIo};
+ghost use Rattle.coherence.specs.declared.call.Call.TheVariants.{Collect, GiveUp, Act, Deliver, Poll};
 ghost use Rattle.list.specs.Contents.{contents};
-ghost use Rattle.raster.specs.Answers.{told, done, source_answer};
-ghost use Rattle.raster.specs.Boards.{world};
-ghost use Rattle.raster.specs.Runs.{GoesOn};
+ghost use Rattle.raster.specs.Answers.{word_answer, done_answer, source_answer};
+ghost use Rattle.raster.specs.Calls.{Did};
 
 use crate::board::Board;
 use coherence::call::Call;
@@ -19,7 +18,7 @@ use message::message::Message;
 use queries::source::source;
 use trail::entry::Entry;
 
-#[tactic(auto, using(crate::proofs::Going::goes_on))]
+#[tactic(auto, using(crate::proofs::Going::did))]
 impl<A: Device, B: Device> Board<A, B> {
     /// Does an LD on a line that is S or X, and tells the word.
     pub fn load(
@@ -29,8 +28,8 @@ impl<A: Device, B: Device> Board<A, B> {
         processor: u32,
         word: u32,
     ) -> Result<u32, Fault>
-        ensures step { (told result, world A.Device.state B.Device.state self.new messages.new trail.new) ≡ step A.Device.meaning B.Device.meaning (Load processor word) (world A.Device.state B.Device.state self.old messages.old trail.old) }
-        ensures run { GoesOn A.Device.meaning B.Device.meaning (Load processor word) (world A.Device.state B.Device.state self.old messages.old trail.old) (told result, world A.Device.state B.Device.state self.new messages.new trail.new) }
+        ensures { Did A.Device B.Device self.old messages.old trail.old
+            (Load processor word) (word_answer result) self.new messages.new trail.new }
     {
         self.load_step(messages, trail, processor, word)
     }
@@ -44,13 +43,13 @@ impl<A: Device, B: Device> Board<A, B> {
         word: u32,
         value: u32,
     ) -> Result<(), Fault>
-        ensures step { (done result, world A.Device.state B.Device.state self.new messages.new trail.new) ≡ step A.Device.meaning B.Device.meaning (Store processor word value) (world A.Device.state B.Device.state self.old messages.old trail.old) }
-        ensures run { GoesOn A.Device.meaning B.Device.meaning (Store processor word value) (world A.Device.state B.Device.state self.old messages.old trail.old) (done result, world A.Device.state B.Device.state self.new messages.new trail.new) }
+        ensures { Did A.Device B.Device self.old messages.old trail.old
+            (Store processor word value) (done_answer result) self.new messages.new trail.new }
     {
         self.store_step(messages, trail, processor, word, value)
     }
 
-    // By rule any number may be given for the kind.
+    // A number and no `Kind`, since one that is out of range is refused by its place.
     /// Asks the home of a block for GETS, GETX, UPG or WB: kinds 1 to 4.
     pub fn request(
         &mut self,
@@ -60,8 +59,8 @@ impl<A: Device, B: Device> Board<A, B> {
         block: u32,
         kind: u32,
     ) -> Result<(), Fault>
-        ensures step { (done result, world A.Device.state B.Device.state self.new messages.new trail.new) ≡ step A.Device.meaning B.Device.meaning (Request processor block kind) (world A.Device.state B.Device.state self.old messages.old trail.old) }
-        ensures run { GoesOn A.Device.meaning B.Device.meaning (Request processor block kind) (world A.Device.state B.Device.state self.old messages.old trail.old) (done result, world A.Device.state B.Device.state self.new messages.new trail.new) }
+        ensures { Did A.Device B.Device self.old messages.old trail.old
+            (Request processor block kind) (done_answer result) self.new messages.new trail.new }
     {
         self.request_step(messages, trail, processor, block, kind)
     }
@@ -75,8 +74,8 @@ impl<A: Device, B: Device> Board<A, B> {
         device: u32,
         word: u32,
     ) -> Result<(), Fault>
-        ensures step { (done result, world A.Device.state B.Device.state self.new messages.new trail.new) ≡ step A.Device.meaning B.Device.meaning (LdIo processor device word) (world A.Device.state B.Device.state self.old messages.old trail.old) }
-        ensures run { GoesOn A.Device.meaning B.Device.meaning (LdIo processor device word) (world A.Device.state B.Device.state self.old messages.old trail.old) (done result, world A.Device.state B.Device.state self.new messages.new trail.new) }
+        ensures { Did A.Device B.Device self.old messages.old trail.old
+            (LdIo processor device word) (done_answer result) self.new messages.new trail.new }
     {
         self.ldio_step(messages, trail, processor, device, word)
     }
@@ -91,8 +90,8 @@ impl<A: Device, B: Device> Board<A, B> {
         word: u32,
         value: u32,
     ) -> Result<(), Fault>
-        ensures step { (done result, world A.Device.state B.Device.state self.new messages.new trail.new) ≡ step A.Device.meaning B.Device.meaning (StIo processor device word value) (world A.Device.state B.Device.state self.old messages.old trail.old) }
-        ensures run { GoesOn A.Device.meaning B.Device.meaning (StIo processor device word value) (world A.Device.state B.Device.state self.old messages.old trail.old) (done result, world A.Device.state B.Device.state self.new messages.new trail.new) }
+        ensures { Did A.Device B.Device self.old messages.old trail.old
+            (StIo processor device word value) (done_answer result) self.new messages.new trail.new }
     {
         self.stio_step(messages, trail, processor, device, word, value)
     }
@@ -105,8 +104,8 @@ impl<A: Device, B: Device> Board<A, B> {
         processor: u32,
         device: u32,
     ) -> Result<u32, Fault>
-        ensures step { (told result, world A.Device.state B.Device.state self.new messages.new trail.new) ≡ step A.Device.meaning B.Device.meaning (Collect processor device) (world A.Device.state B.Device.state self.old messages.old trail.old) }
-        ensures run { GoesOn A.Device.meaning B.Device.meaning (Collect processor device) (world A.Device.state B.Device.state self.old messages.old trail.old) (told result, world A.Device.state B.Device.state self.new messages.new trail.new) }
+        ensures { Did A.Device B.Device self.old messages.old trail.old
+            (Collect processor device) (word_answer result) self.new messages.new trail.new }
     {
         self.collect_step(messages, trail, processor, device)
     }
@@ -119,8 +118,8 @@ impl<A: Device, B: Device> Board<A, B> {
         processor: u32,
         device: u32,
     ) -> Result<(), Fault>
-        ensures step { (done result, world A.Device.state B.Device.state self.new messages.new trail.new) ≡ step A.Device.meaning B.Device.meaning (GiveUp processor device) (world A.Device.state B.Device.state self.old messages.old trail.old) }
-        ensures run { GoesOn A.Device.meaning B.Device.meaning (GiveUp processor device) (world A.Device.state B.Device.state self.old messages.old trail.old) (done result, world A.Device.state B.Device.state self.new messages.new trail.new) }
+        ensures { Did A.Device B.Device self.old messages.old trail.old
+            (GiveUp processor device) (done_answer result) self.new messages.new trail.new }
     {
         self.give_up_step(messages, trail, processor, device)
     }
@@ -132,8 +131,8 @@ impl<A: Device, B: Device> Board<A, B> {
         trail: &mut List<Entry>,
         device: u32,
     ) -> Result<(), Fault>
-        ensures step { (done result, world A.Device.state B.Device.state self.new messages.new trail.new) ≡ step A.Device.meaning B.Device.meaning (Act device) (world A.Device.state B.Device.state self.old messages.old trail.old) }
-        ensures run { GoesOn A.Device.meaning B.Device.meaning (Act device) (world A.Device.state B.Device.state self.old messages.old trail.old) (done result, world A.Device.state B.Device.state self.new messages.new trail.new) }
+        ensures { Did A.Device B.Device self.old messages.old trail.old
+            (Act device) (done_answer result) self.new messages.new trail.new }
     {
         self.act_step(messages, trail, device)
     }
@@ -145,8 +144,8 @@ impl<A: Device, B: Device> Board<A, B> {
         trail: &mut List<Entry>,
         place: u32,
     ) -> Result<(), Fault>
-        ensures step { (done result, world A.Device.state B.Device.state self.new messages.new trail.new) ≡ step A.Device.meaning B.Device.meaning (Deliver place) (world A.Device.state B.Device.state self.old messages.old trail.old) }
-        ensures run { GoesOn A.Device.meaning B.Device.meaning (Deliver place) (world A.Device.state B.Device.state self.old messages.old trail.old) (done result, world A.Device.state B.Device.state self.new messages.new trail.new) }
+        ensures { Did A.Device B.Device self.old messages.old trail.old
+            (Deliver place) (done_answer result) self.new messages.new trail.new }
     {
         self.deliver_step(messages, trail, place)
     }
@@ -158,8 +157,8 @@ impl<A: Device, B: Device> Board<A, B> {
         trail: &mut List<Entry>,
         processor: u32,
     ) -> Result<Option<u32>, Fault>
-        ensures step { (result, world A.Device.state B.Device.state self.new messages.new trail.new) ≡ step A.Device.meaning B.Device.meaning (Poll processor) (world A.Device.state B.Device.state self.old messages.old trail.old) }
-        ensures run { GoesOn A.Device.meaning B.Device.meaning (Poll processor) (world A.Device.state B.Device.state self.old messages.old trail.old) (result, world A.Device.state B.Device.state self.new messages.new trail.new) }
+        ensures { Did A.Device B.Device self.old messages.old trail.old
+            (Poll processor) result self.new messages.new trail.new }
     {
         self.poll_step(messages, trail, processor)
     }
@@ -171,8 +170,8 @@ impl<A: Device, B: Device> Board<A, B> {
         trail: &mut List<Entry>,
         call: Call,
     ) -> Result<Option<u32>, Fault>
-        ensures step { (result, world A.Device.state B.Device.state self.new messages.new trail.new) ≡ step A.Device.meaning B.Device.meaning call (world A.Device.state B.Device.state self.old messages.old trail.old) }
-        ensures run { GoesOn A.Device.meaning B.Device.meaning call (world A.Device.state B.Device.state self.old messages.old trail.old) (result, world A.Device.state B.Device.state self.new messages.new trail.new) }
+        ensures { Did A.Device B.Device self.old messages.old trail.old
+            call result self.new messages.new trail.new }
     {
         match call {
             Call::Load { processor, word } => self.load(messages, trail, processor, word).map(Some),

@@ -1,17 +1,13 @@
 //! Committing a reaction: where both lists have room and all numbers are within their end, the node, the lists and the
-//! answer change together; else nothing does. Contracts tell records and rooms apart, as a world holds them.
+//! answer change together; else nothing does.
 
-ghost use Rattle.std.specs.Prelude.{◌≡◌, ◌+◌, ◌<◌, ◌≤◌, length, IfOk, if◌then◌else◌};
+ghost use Rattle.std.specs.Prelude.{◌≡◌, ◌<◌, IfOk};
 ghost use Rattle.bridge.specs.Deeds.{outcome_of};
-ghost use Rattle.bridge.specs.Plans.{sends, enters};
 ghost use Rattle.bridge.specs.States.{view};
-ghost use Rattle.coherence.specs.Steps.{committed, by_processor, by_home, by_first, by_second};
-ghost use Rattle.list.specs.Contents.{contents, room};
-ghost use Rattle.message.specs.Reactions.{sent_count};
-ghost use Rattle.std.specs.Option.{option_to_list};
-ghost use Rattle.raster.specs.Answers.{done};
-ghost use Rattle.raster.specs.Fitting.{fitting, planned, plan_committed, reaction_committed};
-ghost use Rattle.raster.specs.Boards.{world, left};
+ghost use Rattle.raster.specs.Answers.{done_answer};
+ghost use Rattle.raster.specs.Calls.{ProcessorCommitted, HomeCommitted};
+ghost use Rattle.raster.specs.Commits.{fitting, planned, reaction_committed, PlanDone};
+ghost use Rattle.raster.specs.Lists.{lists};
 
 use crate::board::Board;
 use crate::post::{check_room, post};
@@ -37,7 +33,7 @@ fn fitting(
     number: u8,
     plan: Plan<u64>,
 ) -> Result<Plan, Fault>
-    ensures { result ≡ fitting number plan (length (left (contents messages.now) taken)) (sends plan.deed) (room messages.now) (length (contents trail.now)) (if enters plan.deed then 1 else 0) (room trail.now) }
+    ensures { result ≡ fitting number plan taken (lists messages.now trail.now) }
 {
     check_room(
         messages,
@@ -58,8 +54,8 @@ fn commit_reaction<W: Settle>(
     node: u32,
     reaction: Reaction<W>,
 ) -> Result<W::Rest, Fault>
-    ensures value { (result, contents messages.new, contents trail.new) ≡ reaction_committed W.settled node reaction (contents messages.old) (left (contents messages.old) taken) (room messages.old) (contents trail.old) (room trail.old) }
-    ensures rooms { (room messages.new ≡ room messages.old) × (room trail.new ≡ room trail.old) }
+    ensures { (result, lists messages.new trail.new)
+        ≡ reaction_committed W.settled node reaction taken (lists messages.old trail.old) }
 {
     let Reaction {
         next,
@@ -74,15 +70,15 @@ fn commit_reaction<W: Settle>(
 }
 
 // Of what a plan leads to, a commit needs no more than this.
-#[tactic(auto, unfolding(crate::specs::Fitting::planned))]
+#[tactic(auto, unfolding(crate::specs::Commits::planned))]
 fn perform<D: Device>(bridge: &mut Bridge<D>, number: u8, plan: Plan) -> Outcome
-    ensures exit { view D.Device.state bridge.new ≡ (planned D.Device.meaning number (view D.Device.state bridge.old) plan).next }
+    ensures exit { view D.Device.state bridge.new
+        ≡ (planned D.Device.meaning number (view D.Device.state bridge.old) plan).next }
     ensures outcome { result ≡ outcome_of (planned D.Device.meaning number (view D.Device.state bridge.old) plan) }
 {
     bridge.perform(number, plan)
 }
 
-#[tactic(auto, using(crate::proofs::Planning::commits))]
 pub(crate) fn commit_plan<D: Device>(
     bridge: &mut Bridge<D>,
     messages: &mut List<Message>,
@@ -91,8 +87,8 @@ pub(crate) fn commit_plan<D: Device>(
     number: u8,
     plan: Plan<u64>,
 ) -> Result<(), Fault>
-    ensures value { (done result, view D.Device.state bridge.new, contents messages.new, contents trail.new) ≡ plan_committed number (view D.Device.state bridge.old) (planned D.Device.meaning number (view D.Device.state bridge.old) plan) (contents messages.old) (left (contents messages.old) taken) (room messages.old) (contents trail.old) (room trail.old) }
-    ensures rooms { (room messages.new ≡ room messages.old) × (room trail.new ≡ room trail.old) }
+    ensures { PlanDone D.Device number bridge.old messages.old trail.old
+        taken plan (done_answer result) bridge.new messages.new trail.new }
 {
     let plan = fitting(messages, trail, taken, number, plan)?;
     let outcome = perform(bridge, number, plan);
@@ -112,7 +108,8 @@ impl<A: Device, B: Device> Board<A, B> {
         reaction: Reaction<Processor<u64>>,
     ) -> Result<Option<u32>, Fault>
         requires { processor < 4 }
-        ensures step { (result, world A.Device.state B.Device.state self.new messages.new trail.new) ≡ committed (world A.Device.state B.Device.state self.old messages.old trail.old) (left (contents messages.old) taken) (by_processor (world A.Device.state B.Device.state self.old messages.old trail.old) processor reaction) }
+        ensures step { ProcessorCommitted A.Device B.Device self.old messages.old trail.old
+            taken processor reaction result self.new messages.new trail.new }
         ensures answer { IfOk result (λ a. a ≡ reaction.answer) }
     {
         let next = commit_reaction(messages, trail, taken, processor, reaction)?;
@@ -130,7 +127,8 @@ impl<A: Device, B: Device> Board<A, B> {
         reaction: Reaction<Home<u64>>,
     ) -> Result<Option<u32>, Fault>
         requires { block < 16 }
-        ensures step { (result, world A.Device.state B.Device.state self.new messages.new trail.new) ≡ committed (world A.Device.state B.Device.state self.old messages.old trail.old) (left (contents messages.old) taken) (by_home (world A.Device.state B.Device.state self.old messages.old trail.old) block reaction) }
+        ensures step { HomeCommitted A.Device B.Device self.old messages.old trail.old
+            taken block reaction result self.new messages.new trail.new }
         ensures answer { IfOk result (λ a. a ≡ reaction.answer) }
     {
         let next = commit_reaction(messages, trail, taken, 16 + block, reaction)?;

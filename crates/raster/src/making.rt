@@ -1,12 +1,11 @@
 //! Making a board: it refuses nothing, and a board outside its figures refuses every later call.
 
 ghost use Rattle.std.specs.Prelude.{◌≡◌, ◌<◌, ◌≤◌, true, length, slice_index};
-ghost use Rattle.coherence.specs.Makings.{make, block_words};
+ghost use Rattle.coherence.specs.Makings.{block_words};
 ghost use Rattle.home.specs.Homes.{new_home};
-ghost use Rattle.raster.specs.Boards.{world, making, homes_from, figures_fit};
+ghost use Rattle.raster.specs.Boards.{Made, homes_from, figures_fit};
 
-use crate::board::Board;
-use crate::tables::Tables;
+use crate::board::{Board, Tables};
 use bridge::state::Bridge;
 use device::meaning::Device;
 use home::machine::Home;
@@ -69,7 +68,8 @@ impl<A: Device, B: Device> Board<A, B> {
         messages: &mut List<Message>,
         trail: &mut List<Entry>,
     ) -> Board<A, B>
-        ensures { world A.Device.state B.Device.state result messages.new trail.new ≡ make A.Device.meaning B.Device.meaning (making processors clock words.now (A.Device.state first) (B.Device.state second) messages.old trail.old) }
+        ensures { Made A.Device B.Device processors clock words.now first second
+            messages.old trail.old result messages.new trail.new }
     {
         messages.clear();
         trail.clear();

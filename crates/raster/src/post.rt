@@ -1,11 +1,10 @@
 //! What a reaction leaves on the two lists: the message that it answers goes out, what it sends and does comes in.
 
-ghost use Rattle.std.specs.Prelude.{◌≡◌, ◌+◌, ◌≤◌, ◌++◌, length, is_some, if◌then◌else◌};
+ghost use Rattle.std.specs.Prelude.{◌≡◌, ◌+◌, ◌≤◌, ◌++◌, length, if◌then◌else◌};
 ghost use Rattle.list.specs.Contents.{contents, room};
 ghost use Rattle.message.specs.Reactions.{sent, sent_count};
 ghost use Rattle.std.specs.Option.{option_to_list};
-ghost use Rattle.raster.specs.Answers.{roomy};
-ghost use Rattle.raster.specs.Boards.{left};
+ghost use Rattle.raster.specs.Lists.{lists, left, room_for, posted};
 
 use coherence::fault::{BoardFault, Fault, NetworkFault};
 use list::List;
@@ -31,7 +30,7 @@ pub(crate) fn check_room(
     sends: usize,
     enters: bool,
 ) -> Result<(), Fault>
-    ensures { result ≡ roomy (length (left (contents messages.now) taken)) sends (room messages.now) (length (contents trail.now)) (if enters then 1 else 0) (room trail.now) }
+    ensures { result ≡ room_for (lists messages.now trail.now) taken sends (if enters then 1 else 0) (Ok tt) }
 {
     let waiting = waiting(messages, taken);
     let capacity = messages.capacity();
@@ -77,10 +76,9 @@ pub(crate) fn post(
     outbox: Outbox,
     entry: Option<Entry>,
 )
-    requires { (length (left (contents messages.old) taken) + sent_count outbox ≤ room messages.old) × (length (contents trail.old) + length (option_to_list «entry») ≤ room trail.old) }
-    ensures messages { contents messages.new ≡ left (contents messages.old) taken ++ sent outbox }
-    ensures trail { contents trail.new ≡ contents trail.old ++ option_to_list «entry» }
-    ensures rooms { (room messages.new ≡ room messages.old) × (room trail.new ≡ room trail.old) }
+    requires messages { length (left (contents messages.old) taken) + sent_count outbox ≤ room messages.old }
+    requires trail { length (contents trail.old) + length (option_to_list «entry») ≤ room trail.old }
+    ensures { lists messages.new trail.new ≡ posted (lists messages.old trail.old) taken outbox «entry» }
 {
     if let Some(place) = taken {
         let _ = messages.remove(place);

@@ -1,12 +1,8 @@
 //! Whole runs: one making, and then calls in turn.
 
-ghost use Rattle.std.specs.Prelude.{◌≡◌, length, slice_set};
-ghost use Rattle.coherence.specs.Histories.{run};
-ghost use Rattle.coherence.specs.Makings.{make};
-ghost use Rattle.coherence.specs.Promise.{OrderKept};
-ghost use Rattle.coherence.specs.Steps.{step};
-ghost use Rattle.raster.specs.Boards.{world, making};
-ghost use Rattle.raster.specs.Runs.{world_after, answers_of, overlaid};
+ghost use Rattle.std.specs.Prelude.{◌≡◌, slice_set};
+ghost use Rattle.raster.specs.Boards.{Ran};
+ghost use Rattle.raster.specs.Calls.{Called};
 
 use crate::board::Board;
 use coherence::call::Call;
@@ -16,29 +12,19 @@ use list::List;
 use message::message::Message;
 use trail::entry::Entry;
 
-impl<A: Device, B: Device> Board<A, B> {
-    // Makes a call; its answer is put at a place, if the answers have it.
-    #[tactic(auto, using(std::proofs::lemmas::List::set_past))]
-    fn call_at(
-        &mut self,
-        messages: &mut List<Message>,
-        trail: &mut List<Entry>,
-        call: Call,
-        place: usize,
-        answers: &mut [Result<Option<u32>, Fault>],
-    )
-        ensures world { world A.Device.state B.Device.state self.new messages.new trail.new ≡ (step A.Device.meaning B.Device.meaning call (world A.Device.state B.Device.state self.old messages.old trail.old)).1 }
-        ensures answers { answers.new ≡ slice_set answers.old place (step A.Device.meaning B.Device.meaning call (world A.Device.state B.Device.state self.old messages.old trail.old)).0 }
-    {
-        let answer = self.call(messages, trail, call);
-        // Not by `get_mut`: the place behind it was not proved to be the slice's.
-        if place < answers.len() {
-            answers[place] = answer;
-        }
+// The answer is put at a place, if there is one.
+#[tactic(auto, using(std::proofs::lemmas::List::set_past))]
+fn put(answers: &mut [Result<Option<u32>, Fault>], place: usize, answer: Result<Option<u32>, Fault>)
+    ensures { answers.new ≡ slice_set answers.old place answer }
+{
+    // Not by `get_mut`: the place behind it was not proved to be the slice's.
+    if place < answers.len() {
+        answers[place] = answer;
     }
+}
 
+impl<A: Device, B: Device> Board<A, B> {
     /// Makes the calls in turn. As many answers are given as there are calls and places for them.
-    #[tactic(auto, using(crate::proofs::Turns::turns))]
     pub fn call_all(
         &mut self,
         messages: &mut List<Message>,
@@ -46,11 +32,12 @@ impl<A: Device, B: Device> Board<A, B> {
         calls: &[Call],
         answers: &mut [Result<Option<u32>, Fault>],
     )
-        ensures world { world A.Device.state B.Device.state self.new messages.new trail.new ≡ world_after A.Device.meaning B.Device.meaning (world A.Device.state B.Device.state self.old messages.old trail.old) calls.now }
-        ensures answers { answers.new ≡ overlaid answers.old (answers_of A.Device.meaning B.Device.meaning (world A.Device.state B.Device.state self.old messages.old trail.old) calls.now) }
+        ensures { Called A.Device B.Device self.old messages.old trail.old
+            calls.now answers.old answers.new self.new messages.new trail.new }
     {
         for (place, call) in calls.iter().enumerate() {
-            self.call_at(messages, trail, *call, place, answers);
+            let answer = self.call(messages, trail, *call);
+            put(answers, place, answer);
         }
     }
 }
@@ -68,9 +55,8 @@ pub fn run<A: Device, B: Device>(
     calls: &[Call],
     answers: &mut [Result<Option<u32>, Fault>],
 ) -> Board<A, B>
-    ensures world { world A.Device.state B.Device.state result messages.new trail.new ≡ world_after A.Device.meaning B.Device.meaning (make A.Device.meaning B.Device.meaning (making processors clock words.now (A.Device.state first) (B.Device.state second) messages.old trail.old)) calls.now }
-    ensures answers { answers.new ≡ overlaid answers.old (answers_of A.Device.meaning B.Device.meaning (make A.Device.meaning B.Device.meaning (making processors clock words.now (A.Device.state first) (B.Device.state second) messages.old trail.old)) calls.now) }
-    ensures promise { let k = making processors clock words.now (A.Device.state first) (B.Device.state second) messages.old trail.old in let history = run A.Device.meaning B.Device.meaning k calls.now in (history.world ≡ world_after A.Device.meaning B.Device.meaning (make A.Device.meaning B.Device.meaning k) calls.now) × OrderKept A.Device.meaning B.Device.meaning k history }
+    ensures { Ran A.Device B.Device processors clock words.now first second messages.old trail.old
+        calls.now answers.old answers.new result messages.new trail.new }
 {
     let mut board = Board::make(processors, clock, words, first, second, messages, trail);
     board.call_all(messages, trail, calls, answers);

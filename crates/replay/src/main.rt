@@ -1,19 +1,19 @@
-//! Replays the told examples: each script in `NAME.script` is played, and what is told is compared with `NAME.told`.
+//! Replays the kept examples: each script in `NAME.script` is played, and its output is compared with `NAME.expected`.
 
 #![tactic(auto)]
 
 use console::program::output_of;
 use std::{env, fs, io};
 
-// Whether a script comes out as it is told.
+// Whether a script comes out as is expected of it.
 fn agrees(rt: &HostRuntime, name: &str) -> io::Result<bool> {
     let heap = rt.alloc();
     let script = format!(in heap; "{name}.script")?;
     let script = fs::read(rt, &script)?;
-    let told = format!(in heap; "{name}.told")?;
-    let told = fs::read(rt, &told)?;
+    let expected = format!(in heap; "{name}.expected")?;
+    let expected = fs::read(rt, &expected)?;
     let output = output_of(heap, &script)?;
-    Ok(output.as_bytes() == told.as_slice())
+    Ok(output.as_bytes() == expected.as_slice())
 }
 
 fn main(rt: HostRuntime) -> io::Result<()> {

@@ -1,12 +1,12 @@
 -- A line that is written is read as what it was.
 use Rattle.std.proofs.Common.{◌≡◌, ℕ, ◌<◌, ◌==◌, ◌^◌, false, cond, List, [], ◌∷◌, ◌++◌, Some, None, Option, refl, ap, ◌∙◌, sym, subst}
-use Rattle.std.specs.Prelude.{decimal as digits_of}
+use Rattle.std.specs.Prelude.{decimal}
 use Rattle.std.specs.Option.{option_map}
 use Prim.Native.Char.{code}
 use Rattle.coherence.specs.declared.call.Call.{Call}
 use Rattle.coherence.specs.declared.call.Call.TheVariants.{Load, Store, Request, LdIo, StIo, Collect, GiveUp, Act, Deliver, Poll}
 use Rattle.text.proofs.Spelling.{numbers_read}
-use Rattle.text.specs.Numbers.{decimal, Tabless}
+use Rattle.text.specs.Numbers.{parse_number, Tabless}
 use Rattle.text.specs.Parts.{before, after, first_number, other_fields}
 use Rattle.text.specs.Reading.{then_number, at_end}
 use Rattle.script.specs.Forms.{first_letter, then_letter, last_number, is, one, two, three, four, lettered, opening}
@@ -15,7 +15,7 @@ use Rattle.script.specs.Written.{tabbed, letter_for, numbers_of, written, Short,
 -- what is unread once the letter is, if these numbers are to come
 abbrev rest : List ℕ → Option (List ℕ)
 rest [] = None
-rest (n ∷ ns) = Some (digits_of n ++ tabbed ns)
+rest (n ∷ ns) = Some (decimal n ++ tabbed ns)
 
 -- up to the next tab
 before_tabs : (ns : List ℕ) → before 9 (tabbed ns) ≡ []
@@ -36,10 +36,10 @@ others (x ∷ xs) ns all = rw all.0 (others xs ns all.1)
 
 module _ (n : ℕ) (ns : List ℕ) (short : n < 2 ^ 32) where
   number : first_number (rest (n ∷ ns)) ≡ Some n
-  number = ap decimal (part (digits_of n) ns (numbers_read.tabless n short)) ∙ numbers_read.value n short
+  number = ap parse_number (part (decimal n) ns (numbers_read.tabless n short)) ∙ numbers_read.value n short
 
   left : other_fields (rest (n ∷ ns)) ≡ rest ns
-  left = others (digits_of n) ns (numbers_read.tabless n short)
+  left = others (decimal n) ns (numbers_read.tabless n short)
 
 -- these numbers stand in the fields, and nothing more
 abbrev Holds : Option (List ℕ) → List ℕ → Type 0

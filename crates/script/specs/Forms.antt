@@ -1,5 +1,5 @@
 -- What one line of a script says: the making of a board, or a call.
-use Rattle.std.specs.Prelude.{ℕ, Bool, cond, List, [], ◌∷◌, Some, None, Ok, Err, Option, Result, ◌==◌}
+use Rattle.std.specs.Prelude.{ℕ, Bool, if◌then◌else◌, List, [], ◌∷◌, Some, None, Ok, Err, Option, Result, ◌==◌}
 use Prim.Native.Char.{Char, code}
 use Rattle.std.specs.Option.{option_map}
 use Rattle.coherence.specs.declared.call.Call.{Call}
@@ -12,9 +12,8 @@ use Rattle.script.specs.declared.line.Opening.{Opening}
 
 -- The letter of a field that is one byte.
 abbrev pub only : List ℕ → Option ℕ
-only [] = None
 only (x ∷ []) = Some x
-only (x ∷ y ∷ ys) = None
+only _ = None
 
 abbrev pub first_letter : Option (List ℕ) → Option ℕ
 first_letter r = elim (first_field r) [ None ↦ None | Some f ↦ only f ]
@@ -45,17 +44,17 @@ is c l = c == code l
 -- The call of a letter, with the numbers that follow it.
 abbrev pub lettered : ℕ → Option (List ℕ) → Option Call
 lettered c r =
-    cond (is c "L") (two r Load)
-    (cond (is c "S") (three r Store)
-    (cond (is c "Q") (three r Request)
-    (cond (is c "R") (three r LdIo)
-    (cond (is c "W") (four r StIo)
-    (cond (is c "C") (two r Collect)
-    (cond (is c "X") (two r GiveUp)
-    (cond (is c "D") (one r Act)
-    (cond (is c "G") (one r Deliver)
-    (cond (is c "P") (one r Poll)
-    None)))))))))
+    if is c "L" then two r Load
+    else if is c "S" then three r Store
+    else if is c "Q" then three r Request
+    else if is c "R" then three r LdIo
+    else if is c "W" then four r StIo
+    else if is c "C" then two r Collect
+    else if is c "X" then two r GiveUp
+    else if is c "D" then one r Act
+    else if is c "G" then one r Deliver
+    else if is c "P" then one r Poll
+    else None
 
 abbrev pub call_of : Option (List ℕ) → Option Call
 call_of r = then_letter r lettered
@@ -65,7 +64,7 @@ abbrev pub opening : ℕ → ℕ → Opening
 opening ps clock = record { processors = ps; clock = clock }
 
 abbrev pub opening_of : Option (List ℕ) → Option Opening
-opening_of r = then_letter r (λ c r₁. cond (is c "M") (two r₁ opening) None)
+opening_of r = then_letter r (λ c r₁. if is c "M" then two r₁ opening else None)
 
 -- Line n says this, or is not of the form.
 abbrev pub formed : {A : Type 0} → ℕ → Option A → Result A ScriptFault

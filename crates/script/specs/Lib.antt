@@ -1,6 +1,7 @@
 pub mod Faults
 pub mod Forms
 pub mod Lines
+pub mod Outcomes
+pub mod Plays
 pub mod Scripts
-pub mod Told
 pub mod Written

@@ -19,10 +19,11 @@ use Rattle.script.specs.declared.fault.ScriptFault.TheVariants.{Board}
 use Rattle.script.specs.declared.line.Opening.{Opening}
 use Rattle.script.specs.declared.outcome.Outcome.{Outcome}
 
-abbrev pub Told : Type 0
-Told = Result (Option ℕ) ScriptFault
+-- What a line came to.
+abbrev pub LineResult : Type 0
+LineResult = Result (Option ℕ) ScriptFault
 
-abbrev pub answered : Answer → Told
+abbrev pub answered : Answer → LineResult
 answered (Ok v) = Ok v
 answered (Err f) = Err (Board f)
 
@@ -37,15 +38,17 @@ later (l ∷ ls) = ls
 
 -- What the board is made of. Where nothing is asked for it has no processors, and so refuses every call.
 abbrev pub asked : Option (Result Opening ScriptFault) → Opening
-asked None = opening 0 0
-asked (Some (Err f)) = opening 0 0
 asked (Some (Ok o)) = o
+asked _ = opening 0 0
 
-abbrev pub script_making : {A B : Type 0} → List Text → List ℕ → A → B → Records (Message ℕ) → Records Entry → Making A B
-script_making lines ws a b ms es = making (asked (first_line lines)).processors (asked (first_line lines)).clock ws a b ms es
+abbrev pub script_making : {A B : Type 0} → List Text → List ℕ → A → B → Records (Message ℕ) → Records Entry
+    → Making A B
+script_making lines ws a b ms es =
+    let o = asked (first_line lines) in
+    making o.processors o.clock ws a b ms es
 
 -- The first line on the board that was made, fit or not.
-abbrev pub opened : Bool → Result Opening ScriptFault → Told
+abbrev pub opened : Bool → Result Opening ScriptFault → LineResult
 opened fit (Err f) = Err f
 opened fit (Ok o) = answered (check fit (fault.Board NotFit) (Ok None))
 
@@ -65,8 +68,12 @@ noted room os (new ∷ more) = noted room (pushed os room new) more
 
 module _ {A B : Type 0} (ma : Meaning A) (mb : Meaning B) where
   -- A line in a world: the step of its call; a line that is not of the form touches nothing.
-  abbrev pub lined : Text → World A B → Told × World A B
-  lined l w = elim (formed l.0 (call_of l.1)) [ Err f ↦ (Err f, w) | Ok c ↦ (answered (step ma mb c w).0, (step ma mb c w).1) ]
+  abbrev pub lined : Text → World A B → LineResult × World A B
+  lined l w =
+      elim (formed l.0 (call_of l.1)) [
+        | Err f ↦ (Err f, w)
+        | Ok c ↦ (answered (step ma mb c w).0, (step ma mb c w).1)
+      ]
 
   abbrev pub outcomes_of : World A B → List Text → List Outcome
   outcomes_of w [] = []

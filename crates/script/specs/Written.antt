@@ -45,4 +45,5 @@ Short (n ∷ ns) = (n < 2 ^ 32) × Short ns
 -- Whatever is written so is read as the call, or the making, that it was.
 pub record LinesAreReadBack : Type 0 where
   pub calls : (c : Call) → Short (numbers_of c) → call_of (Some (written (letter_for c) (numbers_of c))) ≡ Some c
-  pub makings : (o : Opening) → o.processors < 2 ^ 32 → o.clock < 2 ^ 32 → opening_of (Some (written "M" (o.processors ∷ (o.clock ∷ [])))) ≡ Some o
+  pub makings : (o : Opening) → o.processors < 2 ^ 32 → o.clock < 2 ^ 32
+      → opening_of (Some (written "M" (o.processors ∷ (o.clock ∷ [])))) ≡ Some o

@@ -6,7 +6,8 @@ ghost use Rattle.script.specs.declared.fault.ScriptFault.TheVariants.{NotOfForm,
 
 use coherence::fault::{Fault, Layer};
 
-#[derive(Clone, Copy)]
+/// A refusal of a line.
+#[derive(Clone, Copy, Debug, PartialEq, Eq)]
 pub enum ScriptFault {
     /// The line with this number, from 1, is not of the form.
     NotOfForm(usize),
@@ -15,6 +16,7 @@ pub enum ScriptFault {
 }
 
 impl ScriptFault {
+    /// Which layer refuses: the board where the line is not of the form.
     pub fn layer(self) -> Layer
         ensures { result ≡ fault_layer self }
     {
@@ -24,6 +26,7 @@ impl ScriptFault {
         }
     }
 
+    /// The refusal's number, 1 to 17: 17 where the line is not of the form.
     pub fn number(self) -> u32
         ensures { result ≡ fault_number self }
     {
@@ -33,6 +36,7 @@ impl ScriptFault {
         }
     }
 
+    /// The refusal's place: the line's number where the line is not of the form.
     pub fn place(self) -> usize
         ensures { result ≡ fault_place self }
     {

@@ -10,14 +10,14 @@ use coherence::call::Call;
 use text::Fields;
 
 /// What the first line asks for: a board of so many processors, with all clocks at `clock`.
-#[derive(Clone, Copy)]
+#[derive(Clone, Copy, Debug, PartialEq, Eq)]
 pub struct Opening {
     pub processors: u32,
     pub clock: u32,
 }
 
 /// A line's number, from 1, and its fields.
-#[derive(Clone, Copy)]
+#[derive(Clone, Copy, Debug, PartialEq, Eq)]
 pub struct Line<'a> {
     pub(crate) number: usize,
     pub(crate) fields: Fields<'a>,

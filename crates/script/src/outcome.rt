@@ -1,4 +1,4 @@
-//! What a line came to, and how it is told.
+//! What a line came to, and how that is written.
 
 ghost use Rattle.script.specs.declared.fault.ScriptFault.TheVariants as fault;
 
@@ -6,8 +6,8 @@ use crate::fault::ScriptFault;
 use list::Record;
 use std::fmt;
 
-/// The value that was told, if one was; or why the line was refused.
-#[derive(Clone, Copy)]
+/// The value that the call answered, if it did; or why the line was refused.
+#[derive(Clone, Copy, Debug, PartialEq, Eq)]
 pub struct Outcome {
     pub result: Result<Option<u32>, ScriptFault>,
 }
@@ -21,7 +21,7 @@ impl Record for Outcome {
 /// `ok` and the value, or `no`, the fault's number and its place.
 impl fmt::Display for Outcome {
     ghost use Rattle.std.specs.Prelude.{Some};
-    ghost use Rattle.script.specs.Told.{outcome_line};
+    ghost use Rattle.script.specs.Outcomes.{outcome_line};
 
     ghost output = { λ outcome. Some (outcome_line outcome) };
 

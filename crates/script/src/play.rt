@@ -1,14 +1,10 @@
 //! A script played: its first line makes the board, and each later line makes its call.
 
 ghost use Rattle.std.specs.Prelude.{◌≡◌};
-ghost use Rattle.coherence.specs.Histories.{run};
-ghost use Rattle.coherence.specs.Makings.{make};
-ghost use Rattle.coherence.specs.Promise.{OrderKept};
 ghost use Rattle.list.specs.Contents.{contents, room};
-ghost use Rattle.raster.specs.Boards.{world};
-ghost use Rattle.raster.specs.Runs.{world_after};
-ghost use Rattle.script.specs.Lines.{script_lines, seen, to_read};
-ghost use Rattle.script.specs.Scripts.{first_line, later, asked, opened, first_outcome, lined, calls_of, outcomes_of, noted, script_making, script_outcomes};
+ghost use Rattle.script.specs.Lines.{seen, to_read};
+ghost use Rattle.script.specs.Plays.{Lined, LinesPlayed, Played};
+ghost use Rattle.script.specs.Scripts.{first_line, later, asked, opened, first_outcome, noted};
 
 use crate::fault::ScriptFault;
 use crate::line::{Line, Opening};
@@ -58,7 +54,8 @@ fn note_first<A: Device, B: Device>(
     opening: Option<Result<Opening, ScriptFault>>,
     outcomes: &mut List<Outcome>,
 )
-    ensures contents { contents outcomes.new ≡ noted (room outcomes.old) (contents outcomes.old) (first_outcome board.now.tables.fit opening) }
+    ensures contents { contents outcomes.new
+        ≡ noted (room outcomes.old) (contents outcomes.old) (first_outcome board.now.tables.fit opening) }
     ensures room { room outcomes.new ≡ room outcomes.old }
 {
     if let Some(opening) = opening {
@@ -74,7 +71,8 @@ fn call_line<A: Device, B: Device>(
     trail: &mut List<Entry>,
     line: Line,
 ) -> Result<Option<u32>, ScriptFault>
-    ensures { (result, world A.Device.state B.Device.state board.new messages.new trail.new) ≡ lined A.Device.meaning B.Device.meaning (seen line.entry) (world A.Device.state B.Device.state board.old messages.old trail.old) }
+    ensures { Lined A.Device B.Device board.old messages.old trail.old
+        (seen line.entry) result board.new messages.new trail.new }
 {
     let call = line.call()?;
     Ok(board.call(messages, trail, call)?)
@@ -88,8 +86,8 @@ fn call_lines<A: Device, B: Device>(
     lines: Reader,
     outcomes: &mut List<Outcome>,
 )
-    ensures world { world A.Device.state B.Device.state board.new messages.new trail.new ≡ world_after A.Device.meaning B.Device.meaning (world A.Device.state B.Device.state board.old messages.old trail.old) (calls_of (to_read lines.entry)) }
-    ensures outcomes { contents outcomes.new ≡ noted (room outcomes.old) (contents outcomes.old) (outcomes_of A.Device.meaning B.Device.meaning (world A.Device.state B.Device.state board.old messages.old trail.old) (to_read lines.entry)) }
+    ensures { LinesPlayed A.Device B.Device board.old messages.old trail.old
+        (to_read lines.entry) outcomes.old outcomes.new board.new messages.new trail.new }
 {
     for line in lines {
         let result = call_line(board, messages, trail, line);
@@ -97,8 +95,8 @@ fn call_lines<A: Device, B: Device>(
     }
 }
 
-/// Plays a script: its first line makes the board, and each later line makes its call. The lines' outcomes are noted in turn
-/// while there is room. The run keeps the order promise.
+/// Plays a script: its first line makes the board, and each later line makes its call. The lines' outcomes are noted in
+/// turn while there is room. The run keeps the order promise.
 pub fn play<A: Device, B: Device>(
     script: &[u8],
     words: &[u32],
@@ -108,9 +106,8 @@ pub fn play<A: Device, B: Device>(
     trail: &mut List<Entry>,
     outcomes: &mut List<Outcome>,
 ) -> Board<A, B>
-    ensures world { let lines = script_lines script.now in world A.Device.state B.Device.state result messages.new trail.new ≡ (run A.Device.meaning B.Device.meaning (script_making lines words.now (A.Device.state first) (B.Device.state second) messages.old trail.old) (calls_of (later lines))).world }
-    ensures outcomes { let lines = script_lines script.now in contents outcomes.new ≡ noted (room outcomes.old) (contents outcomes.old) (script_outcomes A.Device.meaning B.Device.meaning (make A.Device.meaning B.Device.meaning (script_making lines words.now (A.Device.state first) (B.Device.state second) messages.old trail.old)) lines) }
-    ensures promise { let lines = script_lines script.now in let k = script_making lines words.now (A.Device.state first) (B.Device.state second) messages.old trail.old in OrderKept A.Device.meaning B.Device.meaning k (run A.Device.meaning B.Device.meaning k (calls_of (later lines))) }
+    ensures { Played A.Device B.Device script.now words.now first second messages.old trail.old
+        outcomes.old outcomes.new result messages.new trail.new }
 {
     let mut lines = Reader::new(script);
     let opening = first_line(&mut lines);

@@ -7,7 +7,7 @@ use crate::line::Line;
 use text::{Fields, Lines};
 
 /// The script, up to which place it has been read, and the number of the next line.
-#[derive(Clone, Copy)]
+#[derive(Clone, Copy, Debug, PartialEq, Eq)]
 pub struct Reader<'a> {
     lines: Lines<'a>,
     number: usize,
@@ -18,6 +18,7 @@ impl<'a> Reader<'a> {
     ghost use Rattle.std.specs.Prelude.{◌≡◌};
     ghost use Rattle.script.specs.Lines.{script_lines, to_read};
 
+    /// All lines of the script, from its first.
     #[tactic(auto, using(crate::proofs::Counting::few_lines))]
     pub fn new(script: &'a [u8]) -> Reader<'a>
         ensures { to_read result ≡ script_lines script.now }

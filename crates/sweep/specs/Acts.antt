@@ -1,7 +1,6 @@
 -- What a device is once its wish was done: an LDio reads a word of its own, an STio writes one.
-use Rattle.std.specs.Prelude.{cond, Ok, Err, Result, slice_index}
+use Rattle.std.specs.Prelude.{Ok, Err, Result, slice_index}
 use Rattle.ordering.specs.declared.operation.Operation.TheVariants.{LdIo, StIo}
-use Rattle.ordering.specs.Operations.{is}
 use Rattle.device.specs.declared.meaning.NoWord.{NoWord}
 use Rattle.device.specs.declared.meaning.Wish.{Wish}
 use Rattle.device.specs.Meaning.{Meaning, read_exit, read_answer, write_exit, write_answer}
@@ -22,5 +21,8 @@ stored m s h =
 
 abbrev pub acted : {S : Type 0} → Meaning S → S → Wish → Result (Unit {0}) NoWord × S
 acted m s h =
-    cond (is LdIo h.operation) (loaded m s h)
-    (cond (is StIo h.operation) (stored m s h) (Ok tt, m.accepted s 0))
+    elim h.operation [
+      | LdIo ↦ loaded m s h
+      | StIo ↦ stored m s h
+      | _ ↦ (Ok tt, m.accepted s 0)
+    ]

@@ -1,5 +1,5 @@
 -- The copier's meaning: its words and its phase, and nothing of how often it was read.
-use Rattle.std.specs.Prelude.{ℕ, cond, Some, None, Option, ◌==◌}
+use Rattle.std.specs.Prelude.{ℕ, if◌then◌else◌, Some, None, Option, ◌==◌}
 use Rattle.ordering.specs.declared.operation.Operation.{Operation}
 use Rattle.ordering.specs.declared.operation.Operation.TheVariants.{LdIo, StIo}
 use Rattle.ordering.specs.Words.{one_word}
@@ -26,19 +26,19 @@ phase_wish Load = Some (word_wish LdIo 1 0)
 phase_wish (Store w) = Some (word_wish StIo 2 w)
 
 abbrev pub next_phase : Phase → ℕ → Phase
-next_phase Rest w = Rest
 next_phase Load w = Store w
-next_phase (Store v) w = Rest
+next_phase _ w = Rest
+
+-- A 1 in word 0 starts it, and anything else there stops it.
+abbrev pub after_value : Phase → ℕ → ℕ → Phase
+after_value x p v = if p == 0 then (if v == 1 then Load else Rest) else x
 
 abbrev pub copier_meaning : Meaning Copying
 copier_meaning = record {
   words = λ s. s.words.at;
   wish = λ s. phase_wish s.phase;
   reading = λ s p. s;
-  writing = λ s p v. record {
-    words = after_write s.words p v;
-    phase = cond (p == 0) (cond (v == 1) Load Rest) s.phase;
-  };
-  accepted = λ s w. record { words = s.words; phase = next_phase s.phase w };
+  writing = λ s p v. record s { words = after_write s.words p v; phase = after_value s.phase p v };
+  accepted = λ s w. record s { phase = next_phase s.phase w };
   landed = λ s b ws. s;
 }

@@ -1,5 +1,5 @@
-//! A device of the program's own, to show that any will do: told by a 1 in word 0, it loads its word 1 and stores
-//! it to its word 2. It also counts how often it was read, which its meaning leaves out.
+//! A device of the program's own, to show that any will do: once 1 is written to its word 0, it loads its word 1
+//! and stores it to its word 2. It also counts how often it was read, which its meaning leaves out.
 
 ghost use Rattle.std.specs.Prelude.{◌≡◌};
 ghost use Rattle.sweep.specs.declared.copier.Copying.{Copying};
@@ -14,26 +14,30 @@ const SOURCE: u32 = 1;
 
 const TARGET: u32 = 2;
 
-#[derive(Clone, Copy)]
+/// What the copier is at: nothing, the load of its word 1, or the store of what it loaded.
+#[derive(Clone, Copy, Debug, PartialEq, Eq)]
 pub enum Phase {
     Rest,
     Load,
     Store(u32),
 }
 
-#[derive(Clone, Copy)]
+/// All that the copier's meaning speaks of.
+#[derive(Clone, Copy, Debug, PartialEq, Eq)]
 pub struct Copying {
     words: Registers<3>,
     phase: Phase,
 }
 
-#[derive(Clone, Copy)]
+/// The copier, and how often it was read.
+#[derive(Clone, Copy, Debug, PartialEq, Eq)]
 pub struct Copier {
     copying: Copying,
     reads: u32,
 }
 
 impl Copier {
+    /// All words 0, at rest, never read.
     pub fn new() -> Copier
         ensures { result ≡ blank_copier }
     {

@@ -5,7 +5,7 @@
 mod act;
 mod copier;
 mod order;
-mod told;
+mod wish_line;
 
 use act::act;
 use copier::Copier;
@@ -15,7 +15,7 @@ use order::Order;
 use std::io;
 use sweepers::plate_setter::PlateSetter;
 use sweepers::scanner::Scanner;
-use told::Told;
+use wish_line::WishLine;
 
 fn report(rt: &impl Print, done: Result<(), NoWord>) -> io::Result<()> {
     if let Err(NoWord { place }) = done {
@@ -31,7 +31,7 @@ fn play<D: Device>(rt: &impl Print, device: &mut D, most: u32) -> io::Result<()>
         let Some(wish) = device.wish() else {
             return println!(rt; "  no wish");
         };
-        println!(rt; "  {}", Told(wish))?;
+        println!(rt; "  {}", WishLine(wish))?;
         report(rt, act(device, wish))?;
     }
     Ok(())

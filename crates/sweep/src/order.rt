@@ -14,7 +14,7 @@ const BLOCK_COUNT: u32 = 2;
 const PROCESSOR: u32 = 3;
 
 /// A sweep of `count` blocks from `first`, and the processor to interrupt after it.
-#[derive(Clone, Copy)]
+#[derive(Clone, Copy, Debug, PartialEq, Eq)]
 pub struct Order {
     first: u32,
     count: u32,
@@ -22,6 +22,7 @@ pub struct Order {
 }
 
 impl Order {
+    /// The order with these numbers, any of 32 bits.
     pub fn new(first: u32, count: u32, processor: u32) -> Order
         ensures { result ≡ order first count processor }
     {
@@ -43,6 +44,7 @@ impl Order {
     }
 }
 
+/// Writes a command that stops the sweep; a device without words refuses it.
 pub fn stop<D: Device>(device: &mut D) -> Result<(), NoWord>
     ensures { (result, D.Device.state device.new) ≡ stopped D.Device.meaning (D.Device.state device.old) }
 {

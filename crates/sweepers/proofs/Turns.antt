@@ -8,7 +8,7 @@ use Rattle.device.specs.declared.meaning.Wish.{Wish}
 use Rattle.device.specs.Events.{Event, reads, writes, accepts, lands, follow, after, accepted_in}
 use Rattle.device.specs.Meaning.{Meaning}
 use Rattle.sweepers.specs.declared.sweep.Sweep.{Sweep}
-use Rattle.sweepers.specs.Courses.{due, Leaves, told, Sweeps}
+use Rattle.sweepers.specs.Courses.{due, Leaves, after_command, Sweeps}
 use Rattle.sweepers.specs.Tasks.{Task, first_block, block_count, last_wish}
 use Rattle.sweepers.specs.Sweeps.{sweep, commanded, went_on, wished}
 
@@ -74,10 +74,10 @@ module _ {P S : Type 0} (m : Meaning S) (at : P → S) (t : Task) (At : Option S
     in_turn = λ p es a.
         let k = accepted_in es in
         let start = m.words (at p) in
-        let ws = m.words (told m t (at p) 1 es) in
+        let ws = m.words (after_command m t (at p) 1 es) in
         f.wish _ _ (run es _ (m.writing (at p) t.command 1) a (f.starts p 1))
         ∙ turn t ws (first_block t start) (block_count t start) k 0 k (omega arith) (omega arith);
     stopped = λ p v other es a.
         f.wish _ _ (run es None (m.writing (at p) t.command v) a (idle_at p v other))
-        ∙ ap (wish_at t (m.words (told m t (at p) v es))) (rests (accepted_in es));
+        ∙ ap (wish_at t (m.words (after_command m t (at p) v es))) (rests (accepted_in es));
   }

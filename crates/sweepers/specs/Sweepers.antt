@@ -1,5 +1,5 @@
 -- The meaning of a sweeping device, from its task.
-use Rattle.std.specs.Prelude.{ℕ, cond, None, Option, ◌==◌}
+use Rattle.std.specs.Prelude.{ℕ, if◌then◌else◌, None, Option, ◌==◌}
 use Rattle.device.specs.declared.meaning.Wish.{Wish}
 use Rattle.device.specs.Meaning.{Meaning}
 use Rattle.device.specs.Registers.{zeros, after_write}
@@ -17,7 +17,7 @@ sweeper_wish t s = wished (t.each s.words.at) (last_wish t s.words.at) s.sweep
 abbrev pub sweeper_writing : {J : Type 0} {n : ℕ} → Task → Sweeper J n → ℕ → ℕ → Sweeper J n
 sweeper_writing t s p v = record s {
   words = after_write s.words p v;
-  sweep = cond (p == t.command) (commanded v (first_block t s.words.at) (block_count t s.words.at)) s.sweep;
+  sweep = if p == t.command then commanded v (first_block t s.words.at) (block_count t s.words.at) else s.sweep;
 }
 
 abbrev pub sweeper_meaning : {J : Type 0} {n : ℕ} → Task → Meaning (Sweeper J n)

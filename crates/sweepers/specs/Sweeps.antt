@@ -1,5 +1,5 @@
 -- A sweep: blocks in turn, then an interrupt, then nothing.
-use Rattle.std.specs.Prelude.{ℕ, ◌+◌, ◌%◌, ◌^◌, cond, Some, None, Option, ◌==◌, nat_lt}
+use Rattle.std.specs.Prelude.{ℕ, ◌+◌, ◌%◌, ◌^◌, if◌then◌else◌, Some, None, Option, ◌==◌, nat_lt}
 use Rattle.std.specs.Option.{option_map, option_and_then}
 use Rattle.device.specs.declared.meaning.Wish.{Wish}
 use Rattle.sweepers.specs.declared.sweep.Sweep.{Sweep}
@@ -11,13 +11,13 @@ sweep f n k = record { first = f; count = n; position = k }
 
 -- Command 1 starts at the first of n blocks; any other stops.
 abbrev pub commanded : ℕ → ℕ → ℕ → Option Sweep
-commanded c f n = cond (c == 1) (Some (sweep f n 0)) None
+commanded c f n = if c == 1 then Some (sweep f n 0) else None
 
 abbrev pub stage_of : Sweep → Stage
-stage_of x = cond (nat_lt x.position x.count) (Block ((x.first + x.position) % 2 ^ 32)) Interrupt
+stage_of x = if nat_lt x.position x.count then Block ((x.first + x.position) % 2 ^ 32) else Interrupt
 
 abbrev pub advanced : Sweep → Option Sweep
-advanced x = cond (nat_lt x.position x.count) (Some (sweep x.first x.count (x.position + 1))) None
+advanced x = if nat_lt x.position x.count then Some (record x { position = x.position + 1 }) else None
 
 -- The same of a sweep that may be over.
 abbrev pub went_on : Option Sweep → Option Sweep

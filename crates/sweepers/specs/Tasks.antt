@@ -18,6 +18,6 @@ first_block t ws = slice_index ws (t.command + 1)
 abbrev pub block_count : Task → List ℕ → ℕ
 block_count t ws = slice_index ws (t.command + 2)
 
--- The interrupt, to the processor that the words name when it is told.
+-- The interrupt, to the processor that the words name when it is wished for.
 abbrev pub last_wish : Task → List ℕ → Wish
 last_wish t ws = interrupt_wish (slice_index ws (t.command + 3)) t.value

@@ -35,7 +35,7 @@ pub fn windowed_plate_setter_sweeps()
     ensures sweeps { WindowedPlateSetterSweeps }
 {}
 
-/// Sweeps that are told by the places of the words come out wish by wish.
+/// Sweeps that are written by the places of the words come out wish by wish.
 pub fn worked_sweeps_come_out()
     ensures { WorkedSweeps }
 {}

@@ -1,4 +1,5 @@
-//! Devices that sweep blocks and then interrupt a processor: the plate setter, which fetches, and the scanner, which stores.
+//! Devices that sweep blocks and then interrupt a processor: the plate setter, which fetches, and the scanner, which
+//! stores.
 
 #![tactic(auto)]
 

@@ -9,10 +9,11 @@ use device::meaning::Wish;
 use device::registers::Registers;
 use ordering::operation::{Operation, Words};
 
+/// The plate setter with all its 12 words, the four service words among them.
 pub type PlateSetter = Sweeper<Fetching, 12>;
 
 /// Each block is read, and then the processor interrupted with value 1.
-#[derive(Clone, Copy)]
+#[derive(Clone, Copy, Debug, PartialEq, Eq)]
 pub struct Fetching;
 
 impl Job<12> for Fetching {

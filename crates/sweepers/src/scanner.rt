@@ -10,10 +10,11 @@ use device::meaning::Wish;
 use device::registers::Registers;
 use ordering::operation::{Operation, Words};
 
+/// The scanner with its 8 words: the sweep's four, and the row's first word at place 4.
 pub type Scanner = Sweeper<Storing, 8>;
 
 /// The row is stored to each block, and then the processor interrupted with value 2.
-#[derive(Clone, Copy)]
+#[derive(Clone, Copy, Debug, PartialEq, Eq)]
 pub struct Storing;
 
 const ROW: usize = 4;

@@ -4,7 +4,7 @@ ghost use Rattle.std.specs.Prelude.{◌≡◌};
 ghost use Rattle.sweepers.specs.Sweeps.{commanded, advanced, stage_of};
 
 /// A sweep that was started, and how many of its blocks were accepted.
-#[derive(Clone, Copy)]
+#[derive(Clone, Copy, Debug, PartialEq, Eq)]
 pub struct Sweep {
     first: u32,
     count: u32,
@@ -12,7 +12,7 @@ pub struct Sweep {
 }
 
 /// What a sweep is at.
-#[derive(Clone, Copy)]
+#[derive(Clone, Copy, Debug, PartialEq, Eq)]
 pub enum Stage {
     Block(u32),
     Interrupt,
@@ -22,6 +22,7 @@ impl Sweep {
     /// The command that starts a sweep; any other stops it.
     pub const START: u32 = 1;
 
+    /// The sweep of `count` blocks from `first`, if the command starts one.
     pub fn commanded(command: u32, first: u32, count: u32) -> Option<Sweep>
         ensures { result ≡ commanded command first count }
     {
@@ -33,7 +34,7 @@ impl Sweep {
         (command == Sweep::START).then_some(started)
     }
 
-    /// Block numbers wrap at the end of 32 bits.
+    /// The block that is next, or the interrupt after the last. Block numbers wrap at the end of 32 bits.
     pub fn stage(self) -> Stage
         ensures { result ≡ stage_of self }
     {

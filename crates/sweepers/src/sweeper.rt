@@ -47,7 +47,7 @@ pub trait Job<const WORDS: usize> {
 }
 
 /// A device of so many words that sweeps blocks as its job says.
-#[derive(Clone, Copy)]
+#[derive(Clone, Copy, Debug, PartialEq, Eq)]
 pub struct Sweeper<J, const WORDS: usize> {
     words: Registers<WORDS>,
     sweep: Option<Sweep>,

@@ -2,8 +2,8 @@
 use Rattle.std.proofs.Common.{◌≡◌, ℕ, ◌+◌, ◌*◌, ◌/◌, ◌%◌, ◌<◌, ◌≤◌, ◌==◌, ◌^◌, false, List, [], ◌∷◌, ◌++◌, length, Some, None, refl, ap, ◌∙◌, arith}
 use Rattle.std.proofs.lemmas.Bool.Decides.{nat_tests}
 use Rattle.std.proofs.lemmas.Fmt.{decimal_by_steps, decimal_nonempty}
-use Rattle.std.specs.Prelude.{decimal as digits_of}
-use Rattle.text.specs.Numbers.{with_digit, spelled, decimal, Tabless, NumbersAreReadBack}
+use Rattle.std.specs.Prelude.{decimal}
+use Rattle.text.specs.Numbers.{with_digit, parse_number, spelled, Tabless, NumbersAreReadBack}
 
 one_more : (m x : ℕ) → m * 10 + x ≤ 4294967295 → x < 10 → with_digit m (48 + x) ≡ Some (m * 10 + x)
 one_more m x fits small = grind (arith, nat_tests)
@@ -30,7 +30,7 @@ record Read (m : ℕ) (ds : List ℕ) : Type 0 where
 shown : (m : ℕ) → m / 10 * 10 + m % 10 ≡ m
 shown m = omega arith
 
-read : (n : ℕ) → n < 2 ^ 64 → Read n (digits_of n)
+read : (n : ℕ) → n < 2 ^ 64 → Read n (decimal n)
 read = decimal_by_steps Read
     (λ m l. record { value = λ fits. one 0 (48 + m) ∙ one_more 0 m (omega arith) l ∙ ap (λ (n : ℕ). Some n) (omega arith); tabless = (grind (arith, nat_tests), tt) })
     (λ m ds l h. record {
@@ -38,12 +38,12 @@ read = decimal_by_steps Read
       tabless = tabless_push ds (48 + m % 10) h.tabless (grind (arith, nat_tests));
     })
 
-spelt : (ds : List ℕ) → 0 < length ds → decimal ds ≡ spelled 0 ds
+spelt : (ds : List ℕ) → 0 < length ds → parse_number ds ≡ spelled 0 ds
 spelt [] some = absurd (omega arith)
 spelt (x ∷ xs) some = refl
 
 pub numbers_read : NumbersAreReadBack
 numbers_read = record {
-  value = λ n h. let wide : n < 2 ^ 64 = omega arith in spelt (digits_of n) (decimal_nonempty n wide) ∙ (read n wide).value (omega arith);
+  value = λ n h. let wide : n < 2 ^ 64 = omega arith in spelt (decimal n) (decimal_nonempty n wide) ∙ (read n wide).value (omega arith);
   tabless = λ n h. (read n (omega arith)).tabless;
 }

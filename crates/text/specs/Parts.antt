@@ -1,23 +1,23 @@
 -- Parts of a run of bytes: what stands before a mark, and after it; fields and lines.
-use Rattle.std.specs.Prelude.{◌≡◌, ℕ, Bool, true, false, cond, List, [], ◌∷◌, ◌++◌, length, drop, Some, None, Option, ◌==◌, nat_le}
+use Rattle.std.specs.Prelude.{◌≡◌, ℕ, Bool, true, false, List, [], ◌∷◌, ◌++◌, length, drop, Some, None, Option, ◌==◌, if◌then◌else◌, nat_le}
 use Rattle.std.specs.List.{AllByRecursion}
-use Rattle.text.specs.Numbers.{decimal}
+use Rattle.text.specs.Numbers.{parse_number}
 use Rattle.text.specs.declared.fields.Fields.{Fields}
 use Rattle.text.specs.declared.lines.Lines.{Lines}
 
 -- The bytes before the first mark, or all.
 abbrev pub before : ℕ → List ℕ → List ℕ
 before c [] = []
-before c (x ∷ xs) = cond (x == c) [] (x ∷ before c xs)
+before c (x ∷ xs) = if x == c then [] else x ∷ before c xs
 
 -- The bytes after the first mark, if there is one.
 abbrev pub after : ℕ → List ℕ → Option (List ℕ)
 after c [] = None
-after c (x ∷ xs) = cond (x == c) (Some xs) (after c xs)
+after c (x ∷ xs) = if x == c then Some xs else after c xs
 
 -- What stands from a place on; past the end, nothing more is to come.
 abbrev pub left : List ℕ → ℕ → Option (List ℕ)
-left bytes at = cond (nat_le at (length bytes)) (Some (drop at bytes)) None
+left bytes at = if nat_le at (length bytes) then Some (drop at bytes) else None
 
 -- The first of the parts between marks; None: all have been read, and an empty rest is one empty part.
 abbrev pub first_part : ℕ → Option (List ℕ) → Option (List ℕ)
@@ -40,7 +40,7 @@ other_fields r = other_parts 9 r
 
 abbrev pub first_number : Option (List ℕ) → Option ℕ
 first_number None = None
-first_number (Some xs) = decimal (before 9 xs)
+first_number (Some xs) = parse_number (before 9 xs)
 
 abbrev pub has_none : Option (List ℕ) → Bool
 has_none None = true
@@ -53,7 +53,7 @@ begun x (l ∷ ls) = (x ∷ l) ∷ ls
 
 abbrev pub lines_of : List ℕ → List (List ℕ)
 lines_of [] = []
-lines_of (x ∷ xs) = cond (x == 10) ([] ∷ lines_of xs) (begun x (lines_of xs))
+lines_of (x ∷ xs) = if x == 10 then [] ∷ lines_of xs else begun x (lines_of xs)
 
 abbrev pub lines_left : Lines → List (List ℕ)
 lines_left l = lines_of (drop l.parts.at l.parts.bytes.now)
@@ -69,4 +69,5 @@ ended (l ∷ ls) = l ++ 10 ∷ ended ls
 
 pub record LinesAreReadBack : Type 0 where
   pub all_ended : (ls : List (List ℕ)) → AllByRecursion Whole ls → lines_of (ended ls) ≡ ls
-  pub last_open : (ls : List (List ℕ)) (x : ℕ) (xs : List ℕ) → AllByRecursion Whole ls → Whole (x ∷ xs) → lines_of (ended ls ++ x ∷ xs) ≡ ls ++ (x ∷ xs) ∷ []
+  pub last_open : (ls : List (List ℕ)) (x : ℕ) (xs : List ℕ) → AllByRecursion Whole ls → Whole (x ∷ xs)
+      → lines_of (ended ls ++ x ∷ xs) ≡ ls ++ (x ∷ xs) ∷ []

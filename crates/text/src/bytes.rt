@@ -1,7 +1,7 @@
 //! The number that bytes spell.
 
 ghost use Rattle.std.specs.Prelude.{◌≡◌};
-ghost use Rattle.text.specs.Numbers.{decimal, with_digit, NumbersAreReadBack};
+ghost use Rattle.text.specs.Numbers.{parse_number, with_digit, NumbersAreReadBack};
 
 // The number with one more digit, unless the byte is none or the number leaves 32 bits.
 fn with_digit(number: u32, byte: u8) -> Option<u32>
@@ -14,8 +14,8 @@ fn with_digit(number: u32, byte: u8) -> Option<u32>
 }
 
 /// The number of up to 32 bits that decimal digits spell; leading zeros are allowed.
-pub fn decimal(field: &[u8]) -> Option<u32>
-    ensures { result ≡ decimal field.now }
+pub fn parse_number(field: &[u8]) -> Option<u32>
+    ensures { result ≡ parse_number field.now }
 {
     if field.is_empty() {
         return None;
@@ -40,9 +40,9 @@ mod tests {
 
     #[test]
     fn numbers_end_at_32_bits(rt: HostRuntime) {
-        assert_eq!(rt; decimal(b"0004294967295"), Some(4_294_967_295));
-        assert_eq!(rt; decimal(b"4294967296"), None);
-        assert_eq!(rt; decimal(b""), None);
-        assert_eq!(rt; decimal(b"7\r"), None);
+        assert_eq!(rt; parse_number(b"0004294967295"), Some(4_294_967_295));
+        assert_eq!(rt; parse_number(b"4294967296"), None);
+        assert_eq!(rt; parse_number(b""), None);
+        assert_eq!(rt; parse_number(b"7\r"), None);
     }
 }

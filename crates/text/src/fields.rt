@@ -5,16 +5,17 @@ ghost use Rattle.std.specs.Iterator.{at_most};
 ghost use Rattle.std.specs.Option.{option_map};
 ghost use Rattle.text.specs.Parts.{unread, first_field, other_fields, first_number, has_none};
 
-use crate::bytes::decimal;
+use crate::bytes::parse_number;
 use crate::parts::Parts;
 
 /// A line and the place up to which it has been read.
-#[derive(Clone, Copy)]
+#[derive(Clone, Copy, Debug, PartialEq, Eq)]
 pub struct Fields<'a> {
     parts: Parts<'a, b'\t'>,
 }
 
 impl<'a> Fields<'a> {
+    /// All fields of the line, from its first.
     pub fn new(line: &'a [u8]) -> Fields<'a>
         ensures { unread result ≡ Some line.now }
     {
@@ -28,7 +29,7 @@ impl<'a> Fields<'a> {
         ensures number { result ≡ first_number (unread self.old) }
         ensures rest { unread self.new ≡ other_fields (unread self.old) }
     {
-        decimal(self.next()?)
+        parse_number(self.next()?)
     }
 
     /// Whether every field has been read.
@@ -42,7 +43,8 @@ impl<'a> Fields<'a> {
 impl<'a> Iterator for Fields<'a> {
     type Item = &'a [u8];
 
-    ghost next_gives = { λ s r t. (option_map (λ x. x.now) r ≡ first_field (unread s)) × (unread t ≡ other_fields (unread s)) };
+    ghost next_gives = { λ s r t. (option_map (λ x. x.now) r ≡ first_field (unread s))
+        × (unread t ≡ other_fields (unread s)) };
 
     ghost remaining = { λ s. at_most (length s.parts.bytes.now + 1 - s.parts.at) };
 

@@ -7,6 +7,6 @@ mod fields;
 mod lines;
 mod parts;
 
-pub use bytes::{decimal, numbers_are_read_back};
+pub use bytes::{numbers_are_read_back, parse_number};
 pub use fields::Fields;
 pub use lines::{Lines, lines_are_read_back};

@@ -7,19 +7,9 @@ ghost use Rattle.text.specs.Parts.{lines_of, lines_left, LinesAreReadBack};
 use crate::parts::Parts;
 
 /// A text and the place up to which it has been read.
-#[derive(Clone, Copy)]
+#[derive(Clone, Copy, Debug, PartialEq, Eq)]
 pub struct Lines<'a> {
     parts: Parts<'a, b'\n'>,
-}
-
-impl<'a> Lines<'a> {
-    pub fn new(text: &'a [u8]) -> Lines<'a>
-        ensures { lines_left result ≡ lines_of text.now }
-    {
-        Lines {
-            parts: Parts { bytes: text, at: 0 },
-        }
-    }
 }
 
 impl<'a> Iterator for Lines<'a> {
@@ -35,6 +25,17 @@ impl<'a> Iterator for Lines<'a> {
             return None;
         }
         self.parts.next()
+    }
+}
+
+impl<'a> Lines<'a> {
+    /// All lines of the text, from its first.
+    pub fn new(text: &'a [u8]) -> Lines<'a>
+        ensures { lines_left result ≡ lines_of text.now }
+    {
+        Lines {
+            parts: Parts { bytes: text, at: 0 },
+        }
     }
 }
 

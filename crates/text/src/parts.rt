@@ -6,7 +6,7 @@ ghost use Rattle.std.specs.Option.{option_map};
 ghost use Rattle.text.specs.Parts.{before, after, left, first_part, other_parts, has_none};
 
 /// A run of bytes and the place up to which it has been read.
-#[derive(Clone, Copy)]
+#[derive(Clone, Copy, Debug, PartialEq, Eq)]
 pub(crate) struct Parts<'a, const MARK: u8> {
     pub(crate) bytes: &'a [u8],
     pub(crate) at: usize,

@@ -1,5 +1,5 @@
 -- Addresses, and which of them an entry covers.
-use Rattle.std.specs.Prelude.{◌≡◌, ℕ, ◌+◌, ◌*◌, ◌/◌, ◌%◌, Bool, true, cond, ◌&&◌, [], ◌==◌, nat_lt, slice_index}
+use Rattle.std.specs.Prelude.{◌≡◌, ℕ, ◌+◌, ◌*◌, ◌/◌, ◌%◌, Bool, true, ◌&&◌, [], ◌==◌, if◌then◌else◌, nat_lt, slice_index}
 use Rattle.ordering.specs.Operations.{is_block}
 use Rattle.ordering.specs.declared.operation.Operation.TheVariants.{Ld}
 use Rattle.trail.specs.declared.address.Address.{Address}
@@ -19,20 +19,20 @@ no_entry = record {
 
 -- A word operation goes to the word at its place, a block operation to the words 4 × place + 0 to 3.
 abbrev pub word_of : Entry → ℕ → ℕ
-word_of e w = cond (is_block e.operation) (4 * e.place + w) e.place
+word_of e w = if is_block e.operation then 4 * e.place + w else e.place
 
 abbrev pub address_of : Entry → ℕ → Address
 address_of e w = record { space = e.space; word = word_of e w }
 
 abbrev pub covers : Entry → Address → Bool
-covers e a = e.space == a.space && cond (is_block e.operation) (a.word / 4) a.word == e.place
+covers e a = e.space == a.space && (if is_block e.operation then a.word / 4 else a.word) == e.place
 
 abbrev pub value_at : Entry → Address → ℕ
-value_at e a = slice_index e.values.at (cond (is_block e.operation) (a.word % 4) 0)
+value_at e a = slice_index e.values.at (if is_block e.operation then a.word % 4 else 0)
 
 -- A block operation has four words, any other one.
 abbrev pub has_word : Entry → ℕ → Bool
-has_word e w = nat_lt w (cond (is_block e.operation) 4 1)
+has_word e w = nat_lt w (if is_block e.operation then 4 else 1)
 
 -- An entry covers the addresses of its words, with its values there, and no others.
 pub record CoversOwnWords : Type 0 where

@@ -14,8 +14,10 @@ writes_below a s e = is_write e.operation && covers e a && below e.stamp s
 
 -- That is: a write, which covers the address, and of the two stamps its own is the lower; and every such entry.
 pub record WritesBelow : Type 0 where
-  pub each : (a : Address) (s : Stamp) (e : Entry) → writes_below a s e ≡ true → (is_write e.operation ≡ true) × (covers e a ≡ true) × (below e.stamp s ≡ true)
-  pub all : (a : Address) (s : Stamp) (e : Entry) → is_write e.operation ≡ true → covers e a ≡ true → below e.stamp s ≡ true → writes_below a s e ≡ true
+  pub each : (a : Address) (s : Stamp) (e : Entry) → writes_below a s e ≡ true
+      → (is_write e.operation ≡ true) × (covers e a ≡ true) × (below e.stamp s ≡ true)
+  pub all : (a : Address) (s : Stamp) (e : Entry) → is_write e.operation ≡ true → covers e a ≡ true
+      → below e.stamp s ≡ true → writes_below a s e ≡ true
 
 -- What makes an answer the source at address a below stamp s: it is such a write with that value, none is greater,
 -- and equal ones do not come earlier; no answer means that there is no such write.
@@ -24,8 +26,10 @@ pub record IsLatest (trail : List Entry) (a : Address) (s : Stamp) (n v : ℕ) :
   pub stands : slice_get trail n ≡ Some write
   pub writes : writes_below a s write ≡ true
   pub value : v ≡ value_at write a
-  pub greatest : (m : ℕ) (e : Entry) → slice_get trail m ≡ Some e → writes_below a s e ≡ true → below write.stamp e.stamp ≡ false
-  pub first : (m : ℕ) (e : Entry) → m < n → slice_get trail m ≡ Some e → writes_below a s e ≡ true → below e.stamp write.stamp ≡ true
+  pub greatest : (m : ℕ) (e : Entry) → slice_get trail m ≡ Some e → writes_below a s e ≡ true
+      → below write.stamp e.stamp ≡ false
+  pub first : (m : ℕ) (e : Entry) → m < n → slice_get trail m ≡ Some e → writes_below a s e ≡ true
+      → below e.stamp write.stamp ≡ true
 
 abbrev pub Source : List Entry → Address → Stamp → Option (ℕ × ℕ) → Type 0
 Source trail a s None = (m : ℕ) (e : Entry) → slice_get trail m ≡ Some e → writes_below a s e ≡ false

@@ -6,6 +6,7 @@ ghost use Rattle.trail.specs.Addresses.{address_of, covers, value_at, has_word};
 use crate::entry::Entry;
 
 // Its space is a number, as an entry's.
+/// A word of a space.
 #[derive(Clone, Copy, Debug, PartialEq, Eq)]
 pub struct Address {
     pub space: u32,
@@ -40,6 +41,7 @@ impl Entry {
         }
     }
 
+    /// Whether one of the entry's words stands at the address.
     pub fn covers(&self, address: Address) -> bool
         ensures { result ≡ covers self.now address }
     {

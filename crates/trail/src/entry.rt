@@ -4,7 +4,7 @@ use list::Record;
 use ordering::operation::{Operation, Words};
 use ordering::stamp::Stamp;
 
-// By rule a trail may name any party, space and place, so these are numbers.
+// A trail may name parties, spaces and places that no board has, so these are numbers.
 /// Word operations use the first value; the others are 0.
 #[derive(Clone, Copy, Debug, PartialEq, Eq)]
 pub struct Entry {

@@ -7,4 +7,4 @@ use Rattle.console.proofs.report.OutcomeLinesDisplay.fmt.Given as goal
 abbrev pub invariant-loop-outcome : goal.invariant-loop-outcome
 invariant-loop-outcome g l =
     IsPlainFormatter l.initial.f → (done : List ℕ) × HasWritten g.W.Write.write_str_gives l.initial.f done l.f
-    × (done ++ outcome_lines (drop l.outcome-index l.outcome-items) ≡ outcome_lines l.fn.self.outcomes.now)
+    × (done ++ outcome_lines (drop l.outcome-index l.outcome-items) ≡ outcome_lines l.fn.self.0.now)

@@ -1,6 +1,6 @@
 use Rattle.std.proofs.Common.{ap, ◌∙◌}
 use Rattle.lamp.proofs.Shifting.{begins}
-use Rattle.lamp.proofs.start.start.Goals as goal
+use Rattle.lamp.proofs.shift.start.Goals as goal
 use Rattle.lamp.specs.Banks.{lamps}
 use Rattle.lamp.specs.declared.bank.Bank.{Bank}
 use Rattle.raster.specs.Boards.{world}

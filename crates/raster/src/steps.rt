@@ -1,17 +1,15 @@
-//! What the calls of processors do: the checks in the order of their numbers, the processor's reaction, one commit.
-//! Each does what the definition of a step says, and a refusal touches nothing.
+//! The step of each call: the checks in the order of their numbers, one node's reaction, one commit.
 
-ghost use Rattle.std.specs.Prelude.{◌≡◌, ◌<◌, true, length, if◌then◌else◌, Ok, OnOk, nat_lt, slice_index_or};
-ghost use Rattle.coherence.specs.Steps.{check, argument, step};
-ghost use Rattle.coherence.specs.Worlds.{no_processor};
-ghost use Rattle.coherence.specs.declared.call.Call.TheVariants.{Load, Store, Request, LdIo, StIo, Collect, GiveUp, Poll};
-ghost use Rattle.coherence.specs.declared.fault.BoardFault.TheVariants.{NotFit};
-ghost use Rattle.coherence.specs.declared.fault.Fault.TheVariants as fault;
-ghost use Rattle.raster.specs.Answers.{told, done};
-ghost use Rattle.raster.specs.Boards.{world};
+ghost use Rattle.std.specs.Prelude.{◌≡◌, ◌<◌, true, length, OnOk, nat_lt};
+ghost use Rattle.coherence.specs.declared.call.Call.TheVariants.{Load, Store, Request, LdIo, StIo};
+ghost use Rattle.coherence.specs.declared.call.Call.TheVariants.{Collect, GiveUp, Act, Deliver, Poll};
+ghost use Rattle.raster.specs.Answers.{word_answer, done_answer};
+ghost use Rattle.raster.specs.Boards.{device_words, known_processor, known_word};
+ghost use Rattle.raster.specs.Calls.{Stepped};
 
-use crate::board::Board;
-use crate::check::check_below;
+use crate::board::{Board, check_below};
+use crate::bridges::act_at;
+use crate::deliveries::pick;
 use coherence::fault::{BoardFault, Fault};
 use device::meaning::Device;
 use list::List;
@@ -23,7 +21,7 @@ use trail::entry::Entry;
 impl<A: Device, B: Device> Board<A, B> {
     // A processor of a board that is fit; its number is every call's first argument.
     fn processor(&self, number: u32) -> Result<Processor, Fault>
-        ensures value { result ≡ check self.now.tables.fit (fault.Board NotFit) (check (nat_lt number self.now.tables.count) (argument 1) (Ok (slice_index_or self.now.tables.processors number no_processor))) }
+        ensures value { result ≡ known_processor self.now number }
         ensures place { OnOk result (number < 4) }
     {
         self.check_fit()?;
@@ -31,22 +29,11 @@ impl<A: Device, B: Device> Board<A, B> {
         Ok(self.tables.processors[number as usize])
     }
 
-    // How many words a device has; every number but 0 stands for the second.
-    pub(crate) fn word_count(&self, device: u32) -> u32
-        ensures { result ≡ length (if nat_lt device 1 then A.Device.meaning.words (A.Device.state self.now.first.device) else B.Device.meaning.words (B.Device.state self.now.second.device)) }
-    {
-        if device < 1 {
-            self.first.device.count()
-        } else {
-            self.second.device.count()
-        }
-    }
-
     // A word of a device: the second and the third argument.
     fn check_device_word(&self, device: u32, word: u32) -> Result<(), Fault>
-        ensures value { result ≡ check (nat_lt device 2) (argument 2) (check (nat_lt word (length (if nat_lt device 1 then A.Device.meaning.words (A.Device.state self.now.first.device) else B.Device.meaning.words (B.Device.state self.now.second.device)))) (argument 3) (Ok tt)) }
+        ensures value { result ≡ known_word A.Device B.Device self.now device word }
         ensures device { OnOk result (nat_lt device 2 ≡ true) }
-        ensures word { OnOk result (nat_lt word (length (if nat_lt device 1 then A.Device.meaning.words (A.Device.state self.now.first.device) else B.Device.meaning.words (B.Device.state self.now.second.device))) ≡ true) }
+        ensures word { OnOk result (nat_lt word (length (device_words A.Device B.Device self.now device)) ≡ true) }
     {
         check_below(device, 2, 2)?;
         check_below(word, self.word_count(device), 3)
@@ -59,7 +46,8 @@ impl<A: Device, B: Device> Board<A, B> {
         processor: u32,
         word: u32,
     ) -> Result<u32, Fault>
-        ensures { (told result, world A.Device.state B.Device.state self.new messages.new trail.new) ≡ step A.Device.meaning B.Device.meaning (Load processor word) (world A.Device.state B.Device.state self.old messages.old trail.old) }
+        ensures { Stepped A.Device B.Device self.old messages.old trail.old
+            (Load processor word) (word_answer result) self.new messages.new trail.new }
     {
         let state = self.processor(processor)?;
         check_below(word, 64, 2)?;
@@ -76,7 +64,8 @@ impl<A: Device, B: Device> Board<A, B> {
         word: u32,
         value: u32,
     ) -> Result<(), Fault>
-        ensures { (done result, world A.Device.state B.Device.state self.new messages.new trail.new) ≡ step A.Device.meaning B.Device.meaning (Store processor word value) (world A.Device.state B.Device.state self.old messages.old trail.old) }
+        ensures { Stepped A.Device B.Device self.old messages.old trail.old
+            (Store processor word value) (done_answer result) self.new messages.new trail.new }
     {
         let state = self.processor(processor)?;
         check_below(word, 64, 2)?;
@@ -93,7 +82,8 @@ impl<A: Device, B: Device> Board<A, B> {
         block: u32,
         kind: u32,
     ) -> Result<(), Fault>
-        ensures { (done result, world A.Device.state B.Device.state self.new messages.new trail.new) ≡ step A.Device.meaning B.Device.meaning (Request processor block kind) (world A.Device.state B.Device.state self.old messages.old trail.old) }
+        ensures { Stepped A.Device B.Device self.old messages.old trail.old
+            (Request processor block kind) (done_answer result) self.new messages.new trail.new }
     {
         let state = self.processor(processor)?;
         check_below(block, 16, 2)?;
@@ -111,7 +101,8 @@ impl<A: Device, B: Device> Board<A, B> {
         device: u32,
         word: u32,
     ) -> Result<(), Fault>
-        ensures { (done result, world A.Device.state B.Device.state self.new messages.new trail.new) ≡ step A.Device.meaning B.Device.meaning (LdIo processor device word) (world A.Device.state B.Device.state self.old messages.old trail.old) }
+        ensures { Stepped A.Device B.Device self.old messages.old trail.old
+            (LdIo processor device word) (done_answer result) self.new messages.new trail.new }
     {
         let state = self.processor(processor)?;
         self.check_device_word(device, word)?;
@@ -129,7 +120,8 @@ impl<A: Device, B: Device> Board<A, B> {
         word: u32,
         value: u32,
     ) -> Result<(), Fault>
-        ensures { (done result, world A.Device.state B.Device.state self.new messages.new trail.new) ≡ step A.Device.meaning B.Device.meaning (StIo processor device word value) (world A.Device.state B.Device.state self.old messages.old trail.old) }
+        ensures { Stepped A.Device B.Device self.old messages.old trail.old
+            (StIo processor device word value) (done_answer result) self.new messages.new trail.new }
     {
         let state = self.processor(processor)?;
         self.check_device_word(device, word)?;
@@ -145,7 +137,8 @@ impl<A: Device, B: Device> Board<A, B> {
         processor: u32,
         device: u32,
     ) -> Result<u32, Fault>
-        ensures { (told result, world A.Device.state B.Device.state self.new messages.new trail.new) ≡ step A.Device.meaning B.Device.meaning (Collect processor device) (world A.Device.state B.Device.state self.old messages.old trail.old) }
+        ensures { Stepped A.Device B.Device self.old messages.old trail.old
+            (Collect processor device) (word_answer result) self.new messages.new trail.new }
     {
         let state = self.processor(processor)?;
         check_below(device, 2, 2)?;
@@ -161,7 +154,8 @@ impl<A: Device, B: Device> Board<A, B> {
         processor: u32,
         device: u32,
     ) -> Result<(), Fault>
-        ensures { (done result, world A.Device.state B.Device.state self.new messages.new trail.new) ≡ step A.Device.meaning B.Device.meaning (GiveUp processor device) (world A.Device.state B.Device.state self.old messages.old trail.old) }
+        ensures { Stepped A.Device B.Device self.old messages.old trail.old
+            (GiveUp processor device) (done_answer result) self.new messages.new trail.new }
     {
         let state = self.processor(processor)?;
         check_below(device, 2, 2)?;
@@ -170,13 +164,48 @@ impl<A: Device, B: Device> Board<A, B> {
         Ok(())
     }
 
+    #[tactic(auto, using(crate::proofs::Lifting::first_wish, crate::proofs::Lifting::second_wish))]
+    pub(crate) fn act_step(
+        &mut self,
+        messages: &mut List<Message>,
+        trail: &mut List<Entry>,
+        device: u32,
+    ) -> Result<(), Fault>
+        ensures { Stepped A.Device B.Device self.old messages.old trail.old
+            (Act device) (done_answer result) self.new messages.new trail.new }
+    {
+        self.check_fit()?;
+        check_below(device, 2, 1)?;
+        if device < 1 {
+            act_at(&mut self.first, messages, trail, 0, self.tables.count)
+        } else {
+            act_at(&mut self.second, messages, trail, 1, self.tables.count)
+        }
+    }
+
+    pub(crate) fn deliver_step(
+        &mut self,
+        messages: &mut List<Message>,
+        trail: &mut List<Entry>,
+        place: u32,
+    ) -> Result<(), Fault>
+        ensures { Stepped A.Device B.Device self.old messages.old trail.old
+            (Deliver place) (done_answer result) self.new messages.new trail.new }
+    {
+        self.check_fit()?;
+        let place = place as usize;
+        let message = pick(messages, place)?;
+        self.reach(messages, trail, place, message)
+    }
+
     pub(crate) fn poll_step(
         &mut self,
         messages: &mut List<Message>,
         trail: &mut List<Entry>,
         processor: u32,
     ) -> Result<Option<u32>, Fault>
-        ensures { (result, world A.Device.state B.Device.state self.new messages.new trail.new) ≡ step A.Device.meaning B.Device.meaning (Poll processor) (world A.Device.state B.Device.state self.old messages.old trail.old) }
+        ensures { Stepped A.Device B.Device self.old messages.old trail.old
+            (Poll processor) result self.new messages.new trail.new }
     {
         let state = self.processor(processor)?;
         let reaction = state.poll();

@@ -1,4 +1,4 @@
--- How the outcome of a line is told.
+-- The outcome of a line, as a line of text.
 use Rattle.std.specs.Prelude.{ℕ, List, ◌++◌, Some, None, Ok, Err, codes, decimal}
 use Rattle.script.specs.Faults.{fault_number, fault_place}
 use Rattle.script.specs.declared.outcome.Outcome.{Outcome}
@@ -9,7 +9,7 @@ tab = codes "\t"
 abbrev pub newline : List ℕ
 newline = codes "\n"
 
--- `ok` and the value, if one was told; or `no`, the fault's number and its place.
+-- `ok` and the value, if there is one; or `no`, the fault's number and its place.
 abbrev pub outcome_line : Outcome → List ℕ
 outcome_line o =
     elim o.result [

@@ -3,21 +3,21 @@ use Rattle.coherence.specs.Histories.{run}
 use Rattle.coherence.specs.Makings.{Making, make}
 use Rattle.coherence.specs.Promise.{OrderKept}
 use Rattle.coherence.specs.Worlds.{World}
-use Rattle.sweepers.specs.Plates.{plate_meaning, blank_plate}
+use Rattle.sweepers.specs.Plates.{blank_plate}
 use Rattle.sweepers.specs.Scanners.{Scanner, scanner_meaning}
-use Rattle.device.specs.Windows.{window, window_meaning}
+use Rattle.device.specs.Windows.{window}
 use Rattle.list.specs.Contents.{contents, room}
 use Rattle.script.specs.Lines.{script_lines}
 use Rattle.script.specs.Scripts.{calls_of, later, noted, script_making, script_outcomes}
 use Rattle.script.specs.declared.outcome.Outcome.{Outcome}
 use Rattle.trail.specs.declared.entry.Entry.{Entry}
-use Rattle.console.specs.Program.{Plates, board_making}
+use Rattle.console.specs.Program.{Plates, plates_meaning, board_making}
 use Rattle.console.specs.Report.{report}
-use Rattle.console.proofs.program.told.Goals as goal
+use Rattle.console.proofs.program.output_with.Goals as goal
 
 pub returns : goal.returns
 returns c =
-    let ma = window_meaning plate_meaning in
+    let ma = plates_meaning in
     let lines = script_lines c.args.script.now in
     let os = c.args.outcomes.now in
     let from : Plates → Scanner → Making Plates Scanner = λ d s. script_making lines (replicate 64 0) d s c.args.messages.now c.args.trail.now in

@@ -1,13 +1,14 @@
-//! A wish in words.
+//! A wish as a line of text.
 
 use device::meaning::Wish;
 use ordering::operation::Operation;
 use std::fmt;
 
-#[derive(Clone, Copy)]
-pub struct Told(pub Wish);
+/// The operation by its name, and what it is to read, write or report.
+#[derive(Clone, Copy, Debug, PartialEq, Eq)]
+pub struct WishLine(pub Wish);
 
-impl fmt::Display for Told {
+impl fmt::Display for WishLine {
     fn fmt<W: fmt::Write>(&self, f: &mut fmt::Formatter<W>) -> fmt::Result {
         let wish = self.0;
         let operation = wish.operation;
