@@ -8,7 +8,7 @@ use std::fmt;
 use trail::entry::Entry;
 
 /// The read, which of its words, what it got there, and where that came from.
-#[derive(Clone, Copy, Debug, PartialEq, Eq)]
+#[derive(Clone, Copy)]
 pub struct Finding {
     pub entry: usize,
     pub word: u32,

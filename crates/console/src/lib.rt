@@ -5,5 +5,3 @@
 pub mod laws;
 pub mod program;
 pub mod report;
-#[cfg(test)]
-mod tests;

@@ -9,5 +9,3 @@ pub mod machine;
 pub mod plan;
 mod react;
 pub mod request;
-#[cfg(test)]
-mod tests;

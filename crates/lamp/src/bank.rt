@@ -9,7 +9,7 @@ use device::registers::Registers;
 use ordering::operation::Words;
 
 /// A word for each lamp.
-#[derive(Clone, Copy, Debug, PartialEq, Eq)]
+#[derive(Clone, Copy)]
 pub struct Bank {
     lamps: Registers<4>,
 }

@@ -5,8 +5,6 @@
 
 mod bank;
 mod shift;
-#[cfg(test)]
-mod tests;
 mod tickets;
 mod words;
 

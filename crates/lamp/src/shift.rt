@@ -17,7 +17,7 @@ use raster::ticket::{Ticket, Ticketed};
 use trail::entry::Entry;
 
 /// What the shift's calls answered.
-#[derive(Clone, Copy, Debug, PartialEq, Eq)]
+#[derive(Clone, Copy)]
 pub struct Report {
     /// Why processor 1 could not ask for a second word of one device.
     pub again: Fault,

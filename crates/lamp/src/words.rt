@@ -5,7 +5,7 @@ use std::fmt;
 use trail::entry::Entry;
 
 /// Why a call was refused, by its number and place.
-#[derive(Clone, Copy, Debug, PartialEq, Eq)]
+#[derive(Clone, Copy)]
 pub struct Refused(pub Fault);
 
 impl fmt::Display for Refused {
@@ -17,7 +17,7 @@ impl fmt::Display for Refused {
 }
 
 /// An operation that was done, with its first value.
-#[derive(Clone, Copy, Debug, PartialEq, Eq)]
+#[derive(Clone, Copy)]
 pub struct Done(pub Entry);
 
 impl fmt::Display for Done {
@@ -37,7 +37,7 @@ impl fmt::Display for Done {
 }
 
 /// The write that a word was read from, by its entry and value.
-#[derive(Clone, Copy, Debug, PartialEq, Eq)]
+#[derive(Clone, Copy)]
 pub struct Source(pub Option<(usize, u32)>);
 
 impl fmt::Display for Source {

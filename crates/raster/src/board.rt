@@ -12,7 +12,7 @@ use home::machine::Home;
 use processor::state::Processor;
 
 /// All of a board but its devices.
-#[derive(Clone, Copy, Debug, PartialEq, Eq)]
+#[derive(Clone, Copy)]
 pub struct Tables {
     // A board outside its figures is made all the same, so a flag and no `Option`.
     /// Whether the board was made within its figures.

@@ -18,6 +18,13 @@ use message::message::Message;
 use queries::source::source;
 use trail::entry::Entry;
 
+// A call that was made and tells nothing.
+fn done(answer: Result<(), Fault>) -> Result<Option<u32>, Fault>
+    ensures { result ≡ done_answer answer }
+{
+    answer.map(|()| None)
+}
+
 #[tactic(auto, using(crate::proofs::Going::did))]
 impl<A: Device, B: Device> Board<A, B> {
     /// Does an LD on a line that is S or X, and tells the word.
@@ -179,40 +186,31 @@ impl<A: Device, B: Device> Board<A, B> {
                 processor,
                 word,
                 value,
-            } => self
-                .store(messages, trail, processor, word, value)
-                .map(|()| None),
+            } => done(self.store(messages, trail, processor, word, value)),
             Call::Request {
                 processor,
                 block,
                 kind,
-            } => self
-                .request(messages, trail, processor, block, kind)
-                .map(|()| None),
+            } => done(self.request(messages, trail, processor, block, kind)),
             Call::LdIo {
                 processor,
                 device,
                 word,
-            } => self
-                .ldio(messages, trail, processor, device, word)
-                .map(|()| None),
+            } => done(self.ldio(messages, trail, processor, device, word)),
             Call::StIo {
                 processor,
                 device,
                 word,
                 value,
-            } => self
-                .stio(messages, trail, processor, device, word, value)
-                .map(|()| None),
+            } => done(self.stio(messages, trail, processor, device, word, value)),
             Call::Collect { processor, device } => {
                 self.collect(messages, trail, processor, device).map(Some)
             }
             Call::GiveUp { processor, device } => {
-                self.give_up(messages, trail, processor, device)
-                    .map(|()| None)
+                done(self.give_up(messages, trail, processor, device))
             }
-            Call::Act { device } => self.act(messages, trail, device).map(|()| None),
-            Call::Deliver { place } => self.deliver(messages, trail, place).map(|()| None),
+            Call::Act { device } => done(self.act(messages, trail, device)),
+            Call::Deliver { place } => done(self.deliver(messages, trail, place)),
             Call::Poll { processor } => self.poll(messages, trail, processor),
         }
     }

@@ -15,7 +15,7 @@ const SOURCE: u32 = 1;
 const TARGET: u32 = 2;
 
 /// What the copier is at: nothing, the load of its word 1, or the store of what it loaded.
-#[derive(Clone, Copy, Debug, PartialEq, Eq)]
+#[derive(Clone, Copy)]
 pub enum Phase {
     Rest,
     Load,
@@ -23,14 +23,14 @@ pub enum Phase {
 }
 
 /// All that the copier's meaning speaks of.
-#[derive(Clone, Copy, Debug, PartialEq, Eq)]
+#[derive(Clone, Copy)]
 pub struct Copying {
     words: Registers<3>,
     phase: Phase,
 }
 
 /// The copier, and how often it was read.
-#[derive(Clone, Copy, Debug, PartialEq, Eq)]
+#[derive(Clone, Copy)]
 pub struct Copier {
     copying: Copying,
     reads: u32,

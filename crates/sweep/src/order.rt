@@ -14,7 +14,7 @@ const BLOCK_COUNT: u32 = 2;
 const PROCESSOR: u32 = 3;
 
 /// A sweep of `count` blocks from `first`, and the processor to interrupt after it.
-#[derive(Clone, Copy, Debug, PartialEq, Eq)]
+#[derive(Clone, Copy)]
 pub struct Order {
     first: u32,
     count: u32,

@@ -5,7 +5,7 @@ use ordering::operation::Operation;
 use std::fmt;
 
 /// The operation by its name, and what it is to read, write or report.
-#[derive(Clone, Copy, Debug, PartialEq, Eq)]
+#[derive(Clone, Copy)]
 pub struct WishLine(pub Wish);
 
 impl fmt::Display for WishLine {

@@ -1,6 +1,5 @@
-//! Examples of whole runs: a word stored and read, and a board outside its figures.
+//! Whole runs: a word stored and read, and a board outside its figures. The devices are never asked.
 
-use crate::bank::Bank;
 use coherence::call::Call;
 use coherence::fault::Fault;
 use list::List;
@@ -9,6 +8,7 @@ use message::message::Message;
 use raster::board::Board;
 use raster::run::run;
 use raster::ticket::Ticketed;
+use sweepers::scanner::Scanner;
 use trail::entry::Entry;
 
 // Processor 0 comes to own block 0, and changes and reads its first word.
@@ -36,10 +36,6 @@ fn memory() -> ([Message; 16], [Entry; 16]) {
     ([Message::plain(Kind::Gets, 0, 0, 0); 16], [Entry::NONE; 16])
 }
 
-fn dark() -> Bank {
-    Bank::new([0; 4])
-}
-
 fn refused_with(answer: Result<Option<u32>, Fault>) -> Option<(u32, usize)> {
     answer.err().map(|fault| (fault.number(), fault.place()))
 }
@@ -48,7 +44,15 @@ fn refused_with(answer: Result<Option<u32>, Fault>) -> Option<(u32, usize)> {
 fn a_stored_word_is_read(rt: HostRuntime) {
     let (mut waiting, mut entries) = memory();
     let (mut messages, mut trail) = (List::new(&mut waiting), List::new(&mut entries));
-    let mut board = Board::make(1, 0, &[0; 64], dark(), dark(), &mut messages, &mut trail);
+    let mut board = Board::make(
+        1,
+        0,
+        &[0; 64],
+        Scanner::new(),
+        Scanner::new(),
+        &mut messages,
+        &mut trail,
+    );
     let mut answers = [Ok(None); 5];
     board.call_all(&mut messages, &mut trail, &CALLS, &mut answers);
     assert!(rt;
@@ -71,8 +75,8 @@ fn outside_its_figures_a_board_refuses_all(rt: HostRuntime) {
         5,
         0,
         &[0; 64],
-        dark(),
-        dark(),
+        Scanner::new(),
+        Scanner::new(),
         &mut messages,
         &mut trail,
         &CALLS,
